@@ -1,0 +1,6 @@
+use Rattle.std.proofs.Common.{arith, rules}
+use Rattle.or_text.proofs.Digits.{last_digit}
+use Rattle.or_text.proofs.+append_decimal.Goals as goal
+
+pub returns : goal.returns
+returns t c = last_digit c.args.n c.args.out.now.items c.append_decimal.new.out.items _ (search rules) (search rules) (omega arith) (omega arith)

@@ -1,0 +1,126 @@
+//! Numbers and bytes as text, appended to what a list holds.
+#![tactic(auto)]
+
+ghost use Rattle.std.specs.Prelude.{◌≡◌, ◌≤◌, ◌<◌, ◌^◌, ◌++◌, OnOk, decimal, codes, true, false, pos, negsuc};
+ghost use Rattle.std.specs.Fmt.{digit_glyph, digits, signed_decimal};
+ghost use Rattle.or_text.specs.Hexadecimal.{hexadecimal, word_text, digest_text};
+
+use std::alloc::AllocError;
+
+/// Appends a number in decimal, without leading zeros.
+#[tactic(auto, using(crate::proofs::Digits::digit_rules))]
+pub fn append_decimal(n: u64, out: &mut Vec<u8>) -> Result<(), AllocError>
+    ensures { OnOk result (out.new.items ≡ out.old.items ++ decimal n) }
+{
+    if n < 10 {
+        out.push(b'0' + n as u8)?;
+        return Ok(());
+    }
+    append_decimal(n / 10, out)?;
+    out.push(b'0' + (n % 10) as u8)?;
+    Ok(())
+}
+
+/// Appends a signed number in decimal, with `-` before a negative one.
+pub fn append_signed(value: i32, out: &mut Vec<u8>) -> Result<(), AllocError>
+    ensures { OnOk result (out.new.items ≡ out.old.items ++ signed_decimal value) }
+{
+    if value < 0 {
+        out.push(b'-')?;
+    }
+    append_decimal(u64::from(value.unsigned_abs()), out)
+}
+
+// The digit in capitals, as `A` for 10.
+fn capital(digit: u32) -> u8
+    requires { digit < 16 }
+    ensures { result ≡ digit_glyph true digit }
+{
+    if digit < 10 {
+        b'0' + digit as u8
+    } else {
+        b'A' + (digit - 10) as u8
+    }
+}
+
+// The digit, as `a` for 10.
+fn small(digit: u8) -> u8
+    requires { digit < 16 }
+    ensures { result ≡ digit_glyph false digit }
+{
+    if digit < 10 {
+        b'0' + digit
+    } else {
+        b'a' + (digit - 10)
+    }
+}
+
+// Appends a number in capital hexadecimal digits, without leading zeros.
+#[tactic(auto, using(crate::proofs::Digits::digit_rules))]
+fn append_digits(n: u32, out: &mut Vec<u8>) -> Result<(), AllocError>
+    ensures { OnOk result (out.new.items ≡ out.old.items ++ digits 16 true n) }
+{
+    if n < 16 {
+        out.push(capital(n))?;
+        return Ok(());
+    }
+    append_digits(n / 16, out)?;
+    out.push(capital(n % 16))?;
+    Ok(())
+}
+
+/// Appends a number as `0x` and capital hexadecimal digits, without leading zeros.
+pub fn append_hexadecimal(n: u32, out: &mut Vec<u8>) -> Result<(), AllocError>
+    ensures { OnOk result (out.new.items ≡ out.old.items ++ hexadecimal n) }
+{
+    out.extend_from_slice(b"0x")?;
+    append_digits(n, out)
+}
+
+/// Appends a word as eight capital hexadecimal digits.
+pub fn append_word(n: u32, out: &mut Vec<u8>) -> Result<(), AllocError>
+    ensures { OnOk result (out.new.items ≡ out.old.items ++ word_text n) }
+{
+    let digits = [
+        capital(n / 0x1000_0000),
+        capital(n / 0x100_0000 % 16),
+        capital(n / 0x10_0000 % 16),
+        capital(n / 0x1_0000 % 16),
+        capital(n / 0x1000 % 16),
+        capital(n / 0x100 % 16),
+        capital(n / 0x10 % 16),
+        capital(n % 16),
+    ];
+    out.extend_from_slice(&digits)
+}
+
+/// Appends bytes as two lower-case hexadecimal digits each.
+pub fn append_digest(bytes: &[u8], out: &mut Vec<u8>) -> Result<(), AllocError>
+    ensures { OnOk result (out.new.items ≡ out.old.items ++ digest_text bytes.now) }
+{
+    for byte in bytes {
+        out.extend_from_slice(&[small(*byte / 16), small(*byte % 16)])?;
+    }
+    Ok(())
+}
+
+#[cfg(test)]
+mod tests {
+    use super::*;
+    use std::alloc::Global;
+
+    // What the calls append.
+    #[test]
+    fn texts(rt: HostRuntime) {
+        let alloc: Global = rt.alloc();
+        let mut out: Vec<u8> = Vec::new(alloc);
+        assert!(rt; append_decimal(18_446_744_073_709_551_615, &mut out).is_ok());
+        assert!(rt; append_signed(-2_147_483_648, &mut out).is_ok());
+        assert!(rt; append_hexadecimal(0x1F0A, &mut out).is_ok());
+        assert!(rt; append_word(0xAB, &mut out).is_ok());
+        assert!(rt; append_digest(&[0x0F, 0xA0], &mut out).is_ok());
+        assert!(rt;
+            out.as_slice() == b"18446744073709551615-21474836480x1F0A000000AB0fa0".as_slice()
+        );
+    }
+}
