@@ -1,0 +1,10 @@
+pub mod Bits
+pub mod Memory
+pub mod Lines
+pub mod Exceptions
+pub mod Special
+pub mod Translation
+pub mod Timer
+pub mod Interrupts
+pub mod Uart
+pub mod Ompic
