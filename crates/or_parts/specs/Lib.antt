@@ -8,3 +8,4 @@ pub mod Timer
 pub mod Interrupts
 pub mod Uart
 pub mod Ompic
+pub mod Reservation
