@@ -15,6 +15,6 @@ with_bits word mask false = bit_and word (0xFFFFFFFF - mask)
 abbrev pub plus : ℕ → ℕ → ℕ
 plus a b = (a + b) % 2 ^ 32
 
--- a signed immediate as a word
-abbrev pub extended : ℤ → ℕ
-extended i = cast_unsigned w32 i
+-- a signed immediate as a word of 32 bits
+abbrev pub immediate : ℤ → ℕ
+immediate i = cast_unsigned w32 i

@@ -1,0 +1,10 @@
+pub mod Core
+pub mod World
+pub mod Caches
+pub mod Bus
+pub mod Routes
+pub mod DataAccess
+pub mod SpecialAccess
+pub mod Execute
+pub mod Step
+pub mod Turn
