@@ -16,7 +16,7 @@ const LINE: u32 = 32;
 const LINES: u32 = 128;
 
 /// The lines that are held, each with the physical address at which it begins. No store reaches
-/// them (OpenRISC 1000 Architecture Manual, section 9.1).
+/// them (OpenRISC 1000 Architecture Manual, chapter 9).
 #[derive(Clone, Copy)]
 pub struct ICache {
     lines: [Option<Line>; 128],
@@ -50,6 +50,7 @@ fn line_of(pa: u32) -> u32
 }
 
 // Whether it is the line of an address.
+#[inline]
 fn is_line_at(held: &Option<Line>, pa: u32) -> bool
     ensures { result ≡ is_line_at held.now pa }
 {
@@ -80,7 +81,7 @@ impl ICache {
         ICache { lines: [None; 128] }
     }
 
-    /// The word at a physical address, None exactly where its line is not held.
+    /// The big-endian word at a physical address, None exactly where its line is not held.
     #[inline]
     #[tactic(auto, unfolding(or_parts::specs::Lines::held_word))]
     pub fn look(&self, pa: u32) -> Option<u32>

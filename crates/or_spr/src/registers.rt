@@ -153,7 +153,7 @@ impl Sprs {
     }
 
     /// Enters an exception and answers the address of its handler (OpenRISC 1000 Architecture
-    /// Manual, section 6.3). ESR0 becomes SR, EPCR0 where l.rfe leads back to, EEAR0 the cause's
+    /// Manual, chapter 6). ESR0 becomes SR, EPCR0 where l.rfe leads back to, EEAR0 the cause's
     /// address where it has one, and SR that of a handler.
     pub fn enter(&mut self, cause: &Cause, at: &Place) -> u32
         ensures value { result ≡ vector cause.now }

@@ -1,7 +1,7 @@
 //! The tick timer, which counts retired instructions.
 
-ghost use Rattle.std.specs.Prelude.{◌≡◌, ◌==◌, ◌/◌};
-ghost use Rattle.or_parts.specs.Timer.{ticked, mode_written, is_tick_pending, is_at_period, counted_to};
+ghost use Rattle.std.specs.Prelude.{◌≡◌};
+ghost use Rattle.or_parts.specs.Timer.{ticked, mode_written, is_tick_pending};
 
 use std::marker::Model;
 

@@ -25,7 +25,7 @@ const FETCH_KEPT: u32 = 0xFFFF_E0C2;
 const DATA_KEPT: u32 = 0xFFFF_E3C2;
 
 /// The match and translate registers of each set, for fetches or for loads and stores
-/// (OpenRISC 1000 Architecture Manual, section 8.4).
+/// (OpenRISC 1000 Architecture Manual, chapter 8).
 #[derive(Clone, Copy)]
 pub struct Tlb {
     fetches: bool,
@@ -75,10 +75,11 @@ impl Tlb {
         }
     }
 
-    /// The physical address of an effective one, and whether its page inhibits caching. Miss comes
-    /// exactly where the page's set has no valid match for it, PageFault exactly where it has one
-    /// and the right is missing; supervisor mode uses the S rights alone, user mode the U rights
-    /// alone (OpenRISC 1000 Architecture Manual, section 8.5).
+    /// The physical address of an effective one, and whether its page inhibits caching. A fetch asks
+    /// a table for fetches, a load or a store the other. Miss comes exactly where the page's set has
+    /// no valid match for it, PageFault exactly where it has one and the right is missing; supervisor
+    /// mode uses the S rights alone, user mode the U rights alone (OpenRISC 1000 Architecture Manual,
+    /// chapter 8).
     #[inline]
     #[tactic(auto, unfolding(or_parts::specs::Translation::translation))]
     pub fn translate(&self, ea: u32, right: Right, supervisor: bool) -> Result<Phys, TlbFault>
