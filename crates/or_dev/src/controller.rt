@@ -63,7 +63,8 @@ impl Ompic {
     pub fn write(&mut self, offset: u32, v: u32)
         requires aligned { offset % 4 ≡ 0 }
         requires inside { offset < 8 * length self.old }
-        ensures { self.new ≡ ompic_written self.old offset v }
+        ensures statuses { self.new ≡ ompic_written self.old offset v }
+        ensures cores { length self.new ≡ length self.old }
     {
         if offset % 8 == 0 {
             let core = offset / 8;
@@ -83,7 +84,8 @@ impl Ompic {
 
     fn acknowledge(&mut self, core: u32, v: u32)
         requires { core < length self.old }
-        ensures { self.new ≡ acknowledged self.old core v }
+        ensures statuses { self.new ≡ acknowledged self.old core v }
+        ensures cores { length self.new ≡ length self.old }
     {
         if v & 0x8000_0000 != 0 {
             self.set_status(core, 0);
@@ -92,7 +94,8 @@ impl Ompic {
 
     fn generate(&mut self, core: u32, v: u32)
         requires { core < length self.old }
-        ensures { self.new ≡ generated self.old core v }
+        ensures statuses { self.new ≡ generated self.old core v }
+        ensures cores { length self.new ≡ length self.old }
     {
         let destination = v / 0x10000 % 0x4000;
         let cores = self.cores();
@@ -118,7 +121,8 @@ impl Ompic {
 
     fn set_status(&mut self, core: u32, v: u32)
         requires { core < length self.old }
-        ensures { self.new ≡ slice_set self.old core v }
+        ensures statuses { self.new ≡ slice_set self.old core v }
+        ensures cores { length self.new ≡ length self.old }
     {
         set_word_below(&mut self.words, self.cores, core, v);
     }

@@ -109,6 +109,7 @@ impl Uart {
         requires { reg < 8 }
         ensures value { result ≡ uart_value self.old.state reg }
         ensures after { self.new ≡ record self.old { state = uart_after_read self.old.state reg } }
+        ensures spare { self.new.spare ≡ self.old.spare }
     {
         let value = self.value(reg);
         self.note_read(reg);

@@ -4,7 +4,7 @@ use std::test::Fail;
 #[test]
 fn input_is_read(rt: HostRuntime) -> Result<(), Fail> {
     let input = Vec::from_slice(rt.alloc(), b"A")?;
-    let mut uart = Uart::open(rt.alloc(), input, 1)?;
+    let mut uart = Uart::open(rt.alloc(), input, 9)?;
     assert_eq!(rt;
         (uart.read(5), uart.read(2), uart.line()),
         (0x61, 0x01, false)
@@ -26,7 +26,7 @@ fn input_is_read(rt: HostRuntime) -> Result<(), Fail> {
 
 #[test]
 fn bytes_are_sent(rt: HostRuntime) -> Result<(), Fail> {
-    let mut uart = Uart::open(rt.alloc(), Vec::new(rt.alloc()), 3)?;
+    let mut uart = Uart::open(rt.alloc(), Vec::new(rt.alloc()), 9)?;
     uart.write(1, 0x02);
     assert_eq!(rt; uart.line(), true);
     assert_eq!(rt;
