@@ -1,5 +1,5 @@
 -- The status words give back the eight words that keep them.
-use Rattle.std.proofs.Common.{◌≡◌, ◌∙◌, sym, ap, ℕ, ◌-◌, ◌≤◌, List, ◌++◌, length, take, drop, replicate, arith}
+use Rattle.std.proofs.Common.{◌≡◌, ◌∙◌, sym, ap, ℕ, ◌-◌, List, ◌++◌, length, take, replicate, arith}
 use Rattle.std.proofs.lemmas.List.{length-take-le, take-append-drop}
 use Rattle.or_dev.specs.declared.controller.Ompic.TheInside.{Inside}
 use Rattle.or_dev.specs.Controller.{IsPadded}
