@@ -3,7 +3,7 @@ use Rattle.std.specs.Prelude.{◌≡◌, ◌≢◌, ◌≤◌, ◌+◌, ℕ, Lis
 use Rattle.or_host.specs.declared.host.LoadFail.{LoadFail}
 use Rattle.or_host.specs.declared.host.LoadFail.TheVariants.{Failed, TooLong, NoMemory}
 use Rattle.or_host.specs.Bytes.{Adds, AddsPrefix}
-use Rattle.or_host.specs.Told.{Content, TellsStep, SameWhereTold, IsPrefixOfFile, AddsToFile, AddsPrefixToFile}
+use Rattle.or_host.specs.Told.{Content, TellsStep, TellsSame, IsPrefixOfFile, AddsToFile, AddsPrefixToFile}
 
 -- `-`, which stands for standard output
 abbrev pub dash : List ℕ
@@ -25,7 +25,7 @@ Takes (Err NoMemory) told max into = (length into ≤ max) × IfSome told (IsPre
 -- A created name holds nothing; one whose create failed is as it was.
 abbrev pub Empties : {U E : Type 0} → Result U E → Option Content → Option Content → Type 0
 Empties (Ok _) old new = IfSome new (λ file. file ≡ Some [])
-Empties (Err _) old new = SameWhereTold old new
+Empties (Err _) old new = TellsSame old new
 
 -- An append adds all bytes to its file, or fails behind a prefix of them.
 abbrev pub Extends : {U E : Type 0} → Result U E → List ℕ → Option Content → Option Content → Type 0

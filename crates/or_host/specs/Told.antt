@@ -12,12 +12,6 @@ TellsStep Step (Some old) (Some new) = Step old new
 abbrev pub TellsSame : {T : Type 0} → Option T → Option T → Type 0
 TellsSame old new = TellsStep (λ before after. after ≡ before) old new
 
--- What is told both before and after a call is the same.
-abbrev pub SameWhereTold : {T : Type 0} → Option T → Option T → Type 0
-SameWhereTold old None = ⊤
-SameWhereTold None (Some new) = ⊤
-SameWhereTold (Some old) (Some new) = new ≡ old
-
 -- What a name holds: `None` where there is no such file, else its bytes.
 abbrev pub Content : Type 0
 Content = Option (List ℕ)

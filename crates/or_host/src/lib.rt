@@ -12,3 +12,6 @@ pub use files::FileHost;
 pub use host::{Blame, Deed, Failed, Host, LoadFail};
 pub use memory::MemHost;
 pub use sure::SureHost;
+
+#[cfg(test)]
+mod tests;
