@@ -39,14 +39,36 @@ first_loaded load loads file held mid kept a b c one pushed later = record {
 
 stops_first : (load : Load) (loads : List Load) (stop : LoadStop) (a b : HostState) → OneStops load stop a b → StopsLoading (load ∷ loads) stop [] a b
 stops_first load loads (Unread name) a b one = record {
-  front = []; load = load; rest = loads; order = refl; named = one.0; read = tt; cause = one.1; untouched = one.2;
+  front = [];
+  load = load;
+  rest = loads;
+  order = refl;
+  named = one.0;
+  read = tt;
+  cause = one.1;
+  untouched = one.2;
 }
 stops_first load loads (TooLong name limit) a b one = record {
-  front = []; load = load; rest = loads; order = refl; named = one.0; limited = one.1; read = tt;
-  taken = one.2.taken; long = one.2.long; told = one.2.told; untouched = one.2.untouched; no_fault = one.2.no_fault;
+  front = [];
+  load = load;
+  rest = loads;
+  order = refl;
+  named = one.0;
+  limited = one.1;
+  read = tt;
+  taken = one.2.taken;
+  long = one.2.long;
+  told = one.2.told;
+  untouched = one.2.untouched;
+  no_fault = one.2.no_fault;
 }
 stops_first load loads NoMemory a b one = record {
-  front = []; rest = load ∷ loads; order = refl; read = tt; untouched = one.0; no_fault = one.1;
+  front = [];
+  rest = load ∷ loads;
+  order = refl;
+  read = tt;
+  untouched = one.0;
+  no_fault = one.1;
 }
 
 pub first_stops : (load : Load) (loads : List Load) (stop : LoadStop) (held : List (List ℕ)) (a b : HostState) → OneStops load stop a b

@@ -70,12 +70,15 @@ stopped_after outs console name a b c ab (inl at) = inl (record {
   written = same_then a.written b.written c.written ab.0.written at.written;
   cause = fault_after at.failed.name a b c ab.1 at.cause;
 })
-stopped_after outs console name a b c ab (inr at) = inr (at.0, record {
-  whole = at.1.whole;
-  others = λ other x. same_then (a.holds other) (b.holds other) (c.holds other) (ab.0.names other) (at.1.others other x);
-  written = same_then_step (AddsPrefix console) a.written b.written c.written ab.0.written at.1.written;
-  cause = fault_after dash a b c ab.1 at.1.cause;
-})
+stopped_after outs console name a b c ab (inr at) = inr (
+  at.0,
+  record {
+    whole = at.1.whole;
+    others = λ other x. same_then (a.holds other) (b.holds other) (c.holds other) (ab.0.names other) (at.1.others other x);
+    written = same_then_step (AddsPrefix console) a.written b.written c.written ab.0.written at.1.written;
+    cause = fault_after dash a b c ab.1 at.1.cause;
+  },
+)
 
 -- what a stop of the loads comes to
 abbrev pub end_of_stop : LoadStop → CommandEnd
@@ -175,12 +178,15 @@ said_stopped outs console name a b c (inl at) bc = inl (record {
   written = same_then a.written b.written c.written at.written bc.written;
   cause = said_fault Write at.failed.name a b c at.cause bc;
 })
-said_stopped outs console name a b c (inr at) bc = inr (at.0, record {
-  whole = said_hold outs b c bc at.1.whole;
-  others = λ other x. same_then (a.holds other) (b.holds other) (c.holds other) (at.1.others other x) (bc.names other);
-  written = step_then_same (AddsPrefix console) a.written b.written c.written at.1.written bc.written;
-  cause = said_fault Write dash a b c at.1.cause bc;
-})
+said_stopped outs console name a b c (inr at) bc = inr (
+  at.0,
+  record {
+    whole = said_hold outs b c bc at.1.whole;
+    others = λ other x. same_then (a.holds other) (b.holds other) (c.holds other) (at.1.others other x) (bc.names other);
+    written = step_then_same (AddsPrefix console) a.written b.written c.written at.1.written bc.written;
+    cause = said_fault Write dash a b c at.1.cause bc;
+  },
+)
 
 -- what an outcome says stays true where only something is said
 said_outcome : (loads : List Load) (verdict : List (List ℕ) → Option FailedCheck) (Writes : List (List ℕ) → List File → List ℕ → Type 0)

@@ -90,9 +90,12 @@ then_console files console a b c files_written same out no_fault = record {
 -- a prefix of it does, where that fails
 pub console_stopped : (files : List File) (console : List ℕ) (a b c : HostState) → FilesWritten files a b → ((name : List ℕ) → TellsSame (b.holds name) (c.holds name))
     → TellsStep (AddsPrefix console) b.written c.written → FaultOf Write dash b c → WriteStopped files console dash a c
-console_stopped files console a b c files_written same out cause = inr (refl, record {
-  whole = keeps_whole files b c same files_written.whole;
-  others = λ name other. same_then (a.holds name) (b.holds name) (c.holds name) (files_written.others name other) (same name);
-  written = same_then_step (AddsPrefix console) a.written b.written c.written files_written.written out;
-  cause = record { rose = rose_after a.faults b.faults c.faults (sym files_written.no_fault.faults) cause.rose; blame = cause.blame };
-})
+console_stopped files console a b c files_written same out cause = inr (
+  refl,
+  record {
+    whole = keeps_whole files b c same files_written.whole;
+    others = λ name other. same_then (a.holds name) (b.holds name) (c.holds name) (files_written.others name other) (same name);
+    written = same_then_step (AddsPrefix console) a.written b.written c.written files_written.written out;
+    cause = record { rose = rose_after a.faults b.faults c.faults (sym files_written.no_fault.faults) cause.rose; blame = cause.blame };
+  },
+)

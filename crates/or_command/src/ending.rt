@@ -129,11 +129,7 @@ fn say_fault<H: Host>(
 }
 
 // Says why a recording is refused.
-fn say_schedule<H: Host>(
-    host: &mut H,
-    name: &str,
-    detail: ScheduleDetail<'_>,
-) -> Result<(), Failed>
+fn say_schedule<H: Host>(host: &mut H, name: &str, detail: ScheduleDetail<'_>) -> Result<(), Failed>
     ensures { Said result (schedule_line name.now detail.entry) (H.state host.old) (H.state host.new) }
 {
     let so_far = then_say(host, Ok(()), b"or1k: schedule ");

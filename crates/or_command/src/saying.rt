@@ -144,9 +144,7 @@ pub(crate) fn then_detail<H: Host>(
         → Said result (line ++ detail_text detail.entry) start (H.state host.new) }
 {
     match detail {
-        ScheduleDetail::Head { line } => {
-            then_numbered(host, so_far, b"head ", u64::from(line))
-        }
+        ScheduleDetail::Head { line } => { then_numbered(host, so_far, b"head ", u64::from(line)) }
         ScheduleDetail::At { place } => then_numbered(host, so_far, b"at ", place),
         ScheduleDetail::Short => then_say(host, so_far, b"short"),
         ScheduleDetail::Image { recorded, found } => {

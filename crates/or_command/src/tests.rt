@@ -13,57 +13,106 @@ fn each_end_is_said(rt: HostRuntime) -> Result<(), Fail> {
     let found: [u8; 2] = [0x0A, 0xFF];
     let name = "s";
     let details: [(ScheduleDetail<'_>, &[u8]); 9] = [
-        (ScheduleDetail::Head { line: 2 }, b"or1k: schedule s head 2\n"),
-        (ScheduleDetail::At { place: 195 }, b"or1k: schedule s at 195\n"),
+        (
+            ScheduleDetail::Head { line: 2 },
+            b"or1k: schedule s head 2\n",
+        ),
+        (
+            ScheduleDetail::At { place: 195 },
+            b"or1k: schedule s at 195\n",
+        ),
         (ScheduleDetail::Short, b"or1k: schedule s short\n"),
         (
-            ScheduleDetail::Image { recorded: &recorded, found: &found },
+            ScheduleDetail::Image {
+                recorded: &recorded,
+                found: &found,
+            },
             b"or1k: schedule s image e3b0 0aff\n",
         ),
         (
-            ScheduleDetail::Input { recorded: &recorded, found: &found },
+            ScheduleDetail::Input {
+                recorded: &recorded,
+                found: &found,
+            },
             b"or1k: schedule s input e3b0 0aff\n",
         ),
-        (ScheduleDetail::TurnStopped { turn: 4 }, b"or1k: schedule s turn 4 stopped\n"),
-        (ScheduleDetail::CoreRunning { core: 0 }, b"or1k: schedule s core 0 running\n"),
         (
-            ScheduleDetail::TurnWrites { turn: 65536, recorded: 3, found: 0 },
+            ScheduleDetail::TurnStopped { turn: 4 },
+            b"or1k: schedule s turn 4 stopped\n",
+        ),
+        (
+            ScheduleDetail::CoreRunning { core: 0 },
+            b"or1k: schedule s core 0 running\n",
+        ),
+        (
+            ScheduleDetail::TurnWrites {
+                turn: 65536,
+                recorded: 3,
+                found: 0,
+            },
             b"or1k: schedule s turn 65536 writes 3 0\n",
         ),
         (
-            ScheduleDetail::TurnConsole { turn: 65536, recorded: 1, found: 0 },
+            ScheduleDetail::TurnConsole {
+                turn: 65536,
+                recorded: 1,
+                found: 0,
+            },
             b"or1k: schedule s turn 65536 console 1 0\n",
         ),
     ];
     for row in &details {
         let mut host = MemHost::new(alloc, Vec::new(alloc));
-        let refusal = Refusal::Schedule { name, detail: row.0 };
+        let refusal = Refusal::Schedule {
+            name,
+            detail: row.0,
+        };
         assert_eq!(rt; conclude(&mut host, Outcome::Refused(refusal)), 4);
         assert_eq!(rt; host.said(), row.1);
     }
     let ends: [(Outcome<'_>, u8, &[u8]); 9] = [
         (Outcome::Done, 0, b""),
         (Outcome::Unread("i"), 5, b"or1k: read i\n"),
-        (Outcome::TooLong("h.elf", 67_108_864), 8, b"or1k: too long h.elf 67108864\n"),
+        (
+            Outcome::TooLong("h.elf", 67_108_864),
+            8,
+            b"or1k: too long h.elf 67108864\n",
+        ),
         (Outcome::Unwritten("-"), 6, b"or1k: write -\n"),
         (Outcome::NoMemory, 7, b"or1k: no memory\n"),
         (
-            Outcome::Refused(Refusal::Image { name: "h.elf", fault: 1, place: 51 }),
+            Outcome::Refused(Refusal::Image {
+                name: "h.elf",
+                fault: 1,
+                place: 51,
+            }),
             3,
             b"or1k: image h.elf fault 1 51\n",
         ),
         (
-            Outcome::Refused(Refusal::Source { name: "a", fault: 2, line: 2 }),
+            Outcome::Refused(Refusal::Source {
+                name: "a",
+                fault: 2,
+                line: 2,
+            }),
             9,
             b"or1k: source a fault 2 line 2\n",
         ),
         (
-            Outcome::Refused(Refusal::Script { name: "q", fault: 2, line: 1 }),
+            Outcome::Refused(Refusal::Script {
+                name: "q",
+                fault: 2,
+                line: 1,
+            }),
             10,
             b"or1k: script q fault 2 line 1\n",
         ),
         (
-            Outcome::Refused(Refusal::Symbols { name: "h.elf", fault: 1, place: 32 }),
+            Outcome::Refused(Refusal::Symbols {
+                name: "h.elf",
+                fault: 1,
+                place: 32,
+            }),
             12,
             b"or1k: symbols h.elf fault 1 32\n",
         ),
@@ -85,8 +134,14 @@ fn each_end_is_said(rt: HostRuntime) -> Result<(), Fail> {
 fn each_write_fails_in_turn(rt: HostRuntime) -> Result<(), Fail> {
     let alloc = rt.alloc();
     let outputs = [
-        Output { name: "s", text: b"turns" },
-        Output { name: "r", text: b"cores" },
+        Output {
+            name: "s",
+            text: b"turns",
+        },
+        Output {
+            name: "r",
+            text: b"cores",
+        },
     ];
     let names: [Option<&str>; 6] = [None, Some("s"), Some("s"), Some("r"), Some("r"), Some("-")];
     let files: [(&[u8], &[u8], &[u8]); 6] = [
@@ -125,9 +180,18 @@ fn loads_stop_at_the_first(rt: HostRuntime) -> Result<(), Fail> {
         host.put("b", b"BBB")?;
         host.put("c", b"")?;
         let inputs = [
-            Input { name: "a", limit: 1 },
-            Input { name: row.0, limit: row.1 },
-            Input { name: "c", limit: 0 },
+            Input {
+                name: "a",
+                limit: 1,
+            },
+            Input {
+                name: row.0,
+                limit: row.1,
+            },
+            Input {
+                name: "c",
+                limit: 0,
+            },
         ];
         let mut files = Vec::new(alloc);
         let answer = load_files(alloc, &mut host, &inputs, &mut files);

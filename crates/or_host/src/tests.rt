@@ -1,8 +1,7 @@
 use crate::{Failed, FileHost, Host, LoadFail, MemHost, SureHost};
-use std::fs;
-use std::io;
 use std::io::Write;
 use std::test::Fail;
+use std::{fs, io};
 
 // What each failing call of five leaves: the bytes loaded, the file that is written, what went out and what was said.
 #[test]
