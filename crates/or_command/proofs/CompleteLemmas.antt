@@ -1,6 +1,6 @@
 -- Where no fault came, a command comes to what its files come to.
 use Rattle.std.proofs.Common.{◌≡◌, ◌∙◌, sym, ap, refl, subst, ℕ, List, [], ◌∷◌, ◌++◌, ◌+◌, ◌<◌, ◌≤◌, length, Option, Some, None, true, false, cond, inl, inr, arith, length-append}
-use Rattle.std.specs.Prelude.{IfSome, ◌⊎◌, nat_lt}
+use Rattle.std.specs.Prelude.{IfSome, ◌⊎◌, nat_lt, ⊤}
 use Rattle.std.proofs.lemmas.Bool.Decides.{nat_tests}
 use Rattle.or_host.specs.Bytes.{IsPrefix}
 use Rattle.or_host.specs.Told.{Content, IsPrefixOfFile}
@@ -87,3 +87,68 @@ complete loads verdict Writes Lacking (too_long name limit) a b files outcome to
 complete loads verdict Writes Lacking (unread name) a b files outcome told sound = absurd (sound outcome.stopped.cause.rose)
 complete loads verdict Writes Lacking (unwritten name) a b files outcome told sound = absurd (sound (stops_rose outcome.outs outcome.console name a b outcome.stopped))
 complete loads verdict Writes Lacking no_memory a b files outcome told sound = inr refl
+
+-- each of these files is within its limit
+abbrev pub AllFit : List Load → List (List ℕ) → Type 0
+AllFit [] files = ⊤
+AllFit (load ∷ loads) [] = ⊤
+AllFit (load ∷ loads) (file ∷ files) = (length file ≤ load.limit) × AllFit loads files
+
+-- a file that was read is within its limit
+long_not_read : (front : List Load) (load : Load) (rest : List Load) (files : List (List ℕ)) (file : List ℕ) (b : HostState)
+    → AreRead (front ++ load ∷ rest) files b → b.holds load.name ≡ Some (Some file) → load.limit < length file → ⊥
+long_not_read [] load rest [] file b read told over = read
+long_not_read [] load rest (got ∷ files) file b read told over =
+    let same : got ≡ file = told_is b load.name got file read.0 told in
+    let fits : length file ≤ load.limit = subst (λ (x : List ℕ). length x ≤ load.limit) same read.1 in
+    omega arith
+long_not_read (f ∷ front) load rest [] file b read told over = read
+long_not_read (f ∷ front) load rest (got ∷ files) file b read told over = long_not_read front load rest files file b read.2 told over
+
+-- two files, each the first that is too long, are one
+same_long : (front front' : List Load) (load load' : Load) (rest rest' : List Load) (before told : List (List ℕ)) (taken file : List ℕ) (b : HostState)
+    → front ++ load ∷ rest ≡ front' ++ load' ∷ rest' → AreRead front before b → IfSome (b.holds load.name) (IsPrefixOfFile taken) → length taken ≡ load.limit + 1
+    → AllTold front' told b → AllFit front' told → b.holds load'.name ≡ Some (Some file) → load'.limit < length file → load ≡ load'
+same_long [] [] load load' rest rest' before told taken file b order read is_front long tells fits held over = cc
+same_long [] (f ∷ front') load load' rest rest' before [] taken file b order read is_front long tells fits held over = absurd tells
+same_long [] (f ∷ front') load load' rest rest' before (g ∷ told) taken file b order read is_front long tells fits held over =
+    let same : f ≡ load = cc in
+    let here : b.holds load.name ≡ Some (Some g) = subst (λ (x : Load). b.holds x.name ≡ Some (Some g)) same tells.0 in
+    let small : length g ≤ load.limit = subst (λ (x : Load). length g ≤ x.limit) same fits.0 in
+    let P : Option Content → Type 0 = λ held. IfSome held (IsPrefixOfFile taken) in
+    let is_prefix : IsPrefix taken g = subst P here is_front in
+    absurd (omega (arith, ap length is_prefix.parts, length-append taken is_prefix.rest, long))
+same_long (f ∷ front) [] load load' rest rest' [] told taken file b order read is_front long tells fits held over = absurd read
+same_long (f ∷ front) [] load load' rest rest' (g ∷ before) told taken file b order read is_front long tells fits held over =
+    let same : load' ≡ f = cc in
+    let here : b.holds f.name ≡ Some (Some file) = subst (λ (x : Load). b.holds x.name ≡ Some (Some file)) same held in
+    let more : f.limit < length file = subst (λ (x : Load). x.limit < length file) same over in
+    let is : g ≡ file = told_is b f.name g file read.0 here in
+    let small : length file ≤ f.limit = subst (λ (x : List ℕ). length x ≤ f.limit) is read.1 in
+    absurd (omega arith)
+same_long (f ∷ front) (f' ∷ front') load load' rest rest' [] told taken file b order read is_front long tells fits held over = absurd read
+same_long (f ∷ front) (f' ∷ front') load load' rest rest' (g ∷ before) [] taken file b order read is_front long tells fits held over = absurd tells
+same_long (f ∷ front) (f' ∷ front') load load' rest rest' (g ∷ before) (h ∷ told) taken file b order read is_front long tells fits held over =
+    let later : front ++ load ∷ rest ≡ front' ++ load' ∷ rest' = cc in
+    same_long front front' load load' rest rest' before told taken file b later read.2 is_front long tells.1 fits.1 held over
+
+-- Where the host tells the files up to one that is the first to hold more than its limit, and no fault came, a command comes
+-- to this file, or memory ran out.
+pub long_file_decides : (loads : List Load) (verdict : List (List ℕ) → Option FailedCheck) (Writes : List (List ℕ) → List File → List ℕ → Type 0)
+    (Lacking : HostState → HostState → Type 0) (end : CommandEnd) (a b : HostState) (front : List Load) (load : Load) (rest : List Load) (told : List (List ℕ)) (file : List ℕ)
+    → CommandOutcome loads verdict Writes Lacking end a b → loads ≡ front ++ load ∷ rest → AllTold front told b → AllFit front told
+    → b.holds load.name ≡ Some (Some file) → load.limit < length file → (Rose a.faults b.faults → ⊥)
+    → (end ≡ too_long load.name load.limit) ⊎ (end ≡ no_memory)
+long_file_decides loads verdict Writes Lacking done a b front load rest told file outcome order tells fits held over sound =
+    absurd (long_not_read front load rest outcome.files file b (subst (λ (ls : List Load). AreRead ls outcome.files b) order outcome.read) held over)
+long_file_decides loads verdict Writes Lacking (refused r) a b front load rest told file outcome order tells fits held over sound =
+    absurd (long_not_read front load rest outcome.files file b (subst (λ (ls : List Load). AreRead ls outcome.files b) order outcome.read) held over)
+long_file_decides loads verdict Writes Lacking (too_long name limit) a b front load rest told file outcome order tells fits held over sound =
+    let at : outcome.stopped.load ≡ load = same_long outcome.stopped.front front outcome.stopped.load load outcome.stopped.rest rest outcome.before told outcome.stopped.taken file b
+    (sym outcome.stopped.order ∙ order) outcome.stopped.read outcome.stopped.told outcome.stopped.long tells fits held over in
+    inl (ap (λ n. too_long n limit) outcome.stopped.named ∙ ap (λ n. too_long outcome.stopped.load.name n) outcome.stopped.limited
+    ∙ ap (λ (l : Load). too_long l.name l.limit) at)
+long_file_decides loads verdict Writes Lacking (unread name) a b front load rest told file outcome order tells fits held over sound = absurd (sound outcome.stopped.cause.rose)
+long_file_decides loads verdict Writes Lacking (unwritten name) a b front load rest told file outcome order tells fits held over sound =
+    absurd (sound (stops_rose outcome.outs outcome.console name a b outcome.stopped))
+long_file_decides loads verdict Writes Lacking no_memory a b front load rest told file outcome order tells fits held over sound = inr refl

@@ -1,10 +1,10 @@
 -- A file that is loaded, and then those behind it.
-use Rattle.std.proofs.Common.{◌≡◌, ◌∙◌, sym, ap, refl, subst, ℕ, List, [], ◌∷◌, ◌++◌, length, Some, append_assoc, append-nil}
+use Rattle.std.proofs.Common.{◌≡◌, ◌∙◌, sym, ap, refl, ℕ, List, [], ◌∷◌, ◌++◌, length, Some, append_assoc, append-nil}
 use Rattle.or_host.specs.HostState.{HostState}
 use Rattle.or_command.specs.declared.loading.LoadStop.{LoadStop}
 use Rattle.or_command.specs.declared.loading.LoadStop.TheVariants.{Unread, TooLong, NoMemory}
-use Rattle.or_command.specs.Leaves.{Untouched, NoFault}
-use Rattle.or_command.specs.Loads.{Load, AreRead, OneRead, OneStops, AllRead, StopsLoading, LoadsAll, LoadsSome}
+use Rattle.or_command.specs.Leaves.{Untouched}
+use Rattle.or_command.specs.Loads.{Load, AreRead, OneRead, OneStops, StopsLoading, LoadsAll, LoadsSome}
 use Rattle.or_command.proofs.TellsLemmas.{told_then, rose_after, untouched_then, no_fault_then, untouched_refl, no_fault_refl}
 
 -- no file is loaded

@@ -1,9 +1,7 @@
 -- From the parts of a command to its outcome, and from its outcome to what the files come to by themselves.
-use Rattle.std.proofs.Common.{◌≡◌, ◌∙◌, sym, ap, refl, subst, ℕ, List, [], ◌∷◌, ◌++◌, ◌+◌, ◌<◌, ◌≤◌, length, Option, Some, None, true, false, cond, inl, inr, arith, length-append}
-use Rattle.std.specs.Prelude.{IfSome, ◌⊎◌, nat_lt, map}
-use Rattle.std.proofs.lemmas.Bool.Decides.{nat_tests}
-use Rattle.or_host.specs.Bytes.{IsPrefix, Adds, AddsPrefix}
-use Rattle.or_host.specs.Told.{Content, TellsSame, IsPrefixOfFile}
+use Rattle.std.proofs.Common.{◌≡◌, ◌∙◌, sym, subst, ℕ, List, [], ◌∷◌, ◌++◌, ◌+◌, Option, Some, None, true, inl, inr}
+use Rattle.or_host.specs.Bytes.{Adds, AddsPrefix}
+use Rattle.or_host.specs.Told.{TellsSame, IsPrefixOfFile}
 use Rattle.or_host.specs.Counts.{Rose}
 use Rattle.or_host.specs.HostState.{HostState}
 use Rattle.or_host.specs.Calls.{dash}
@@ -12,11 +10,11 @@ use Rattle.or_host.specs.declared.host.Deed.TheVariants.{Write, Load as Loading}
 use Rattle.or_command.specs.declared.loading.LoadStop.{LoadStop}
 use Rattle.or_command.specs.declared.loading.LoadStop.TheVariants.{Unread, TooLong, NoMemory}
 use Rattle.or_command.specs.Leaves.{Untouched, NoFault, FaultOf, Silent}
-use Rattle.or_command.specs.Writes.{File, AllHold, IsOther, FilesStopped, AllWritten, OutStopped, WriteStopped}
-use Rattle.or_command.specs.Loads.{Load, AreRead, AllRead, StopsLoading, StopsUnread, StopsTooLong}
+use Rattle.or_command.specs.Writes.{File, AllHold, IsOther, AllWritten, WriteStopped}
+use Rattle.or_command.specs.Loads.{Load, AreRead, AllRead, StopsLoading}
 use Rattle.or_command.specs.Said.{OnlySays, SaidLine}
 use Rattle.or_command.specs.Ends.{FailedCheck, CommandEnd, done, unread, too_long, refused, unwritten, no_memory, line_of}
-use Rattle.or_command.specs.Outcomes.{LeavesAll, AreApart, first_long, end_by, AllTold, Finishes, Refuses, Breaks, Misses, Exceeds, CommandOutcome, CommandRuns, end_of_files}
+use Rattle.or_command.specs.Outcomes.{LeavesAll, AreApart, CommandOutcome, CommandRuns}
 use Rattle.or_command.proofs.TellsLemmas.{same_then, told_then, same_then_step, step_then_same, same_then_part, part_then_same, rose_after, untouched_then, no_fault_then}
 use Rattle.or_command.proofs.SaysLemmas.{line_after_silence}
 

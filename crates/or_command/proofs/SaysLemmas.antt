@@ -1,13 +1,11 @@
 -- One piece of a line after another.
-use Rattle.std.proofs.Common.{◌≡◌, ◌∙◌, sym, ap, refl, ℕ, List, [], ◌∷◌, ◌++◌, ◌/◌, ◌%◌, ◌^◌, ◌<◌, ◌≤◌, ◌+◌, Ok, Err, inl, inr, append_assoc, append-nil, decimal, subst}
-use Rattle.std.specs.Prelude.{Result, ◌⊎◌}
+use Rattle.std.proofs.Common.{◌≡◌, ◌∙◌, sym, ap, refl, ℕ, List, [], ◌∷◌, ◌++◌, ◌/◌, ◌%◌, ◌^◌, ◌<◌, ◌≤◌, ◌+◌, Ok, Err, inl, inr, append_assoc, decimal, subst}
+use Rattle.std.specs.Prelude.{Result}
 use Rattle.std.proofs.lemmas.Fmt.{decimal_step, decimal_digit}
 use Rattle.or_host.specs.Bytes.{Adds, AddsPrefix}
-use Rattle.or_host.specs.Told.{TellsStep}
-use Rattle.or_host.specs.Counts.{Rose}
 use Rattle.or_host.specs.HostState.{HostState}
 use Rattle.or_command.specs.Leaves.{Silent}
-use Rattle.or_command.specs.Said.{Says, OnlySays, Said, SaidLine}
+use Rattle.or_command.specs.Said.{OnlySays, Said, SaidLine}
 use Rattle.or_command.proofs.TellsLemmas.{same_refl, same_then, same_then_step, adds_none, later_rose}
 
 -- nothing was said yet

@@ -1,6 +1,6 @@
 -- One step of what a host tells after another.
 use Rattle.std.proofs.Common.{◌≡◌, ◌∙◌, sym, ap, refl, subst, ℕ, List, [], ◌++◌, ◌≤◌, Option, Some, None, append_assoc, append-nil, inl, inr, arith}
-use Rattle.std.specs.Prelude.{IfSome, ◌⊎◌}
+use Rattle.std.specs.Prelude.{IfSome}
 use Rattle.or_host.specs.Bytes.{Adds, AddsPrefix}
 use Rattle.or_host.specs.Told.{Content, TellsStep, TellsSame}
 use Rattle.or_host.specs.Counts.{Rose}

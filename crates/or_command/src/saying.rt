@@ -1,5 +1,5 @@
 // Says a line in pieces: where a piece fails, the rest is not said. No piece takes memory.
-ghost use Rattle.std.specs.Prelude.{◌≡◌, ◌++◌, ◌<◌, ◌∷◌, [], List, ℕ, decimal, codes, false};
+ghost use Rattle.std.specs.Prelude.{◌≡◌, ◌++◌, ◌<◌, List, ℕ, decimal, codes, false};
 ghost use Rattle.std.specs.Fmt.{digit_glyph};
 ghost use Rattle.or_text.specs.Hexadecimal.{digest_text};
 ghost use Rattle.or_host.specs.HostState.{HostState};

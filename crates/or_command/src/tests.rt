@@ -125,7 +125,7 @@ fn each_end_is_said(rt: HostRuntime) -> Result<(), Fail> {
     let mut host = MemHost::new(alloc, vec![in alloc; 2]?);
     say_usage(&mut host);
     assert_eq!(rt; conclude(&mut host, Outcome::Unread("name")), 5);
-    assert_eq!(rt; host.said(), b"or1k: usage\nor1k: ".as_slice());
+    assert_eq!(rt; host.said(), b"or1k: usage\nor1k:".as_slice());
     Ok(())
 }
 

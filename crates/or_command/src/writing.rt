@@ -1,5 +1,5 @@
 // Writes files in order, and standard output behind them.
-ghost use Rattle.std.specs.Prelude.{◌≡◌, MatchResult};
+ghost use Rattle.std.specs.Prelude.{MatchResult};
 ghost use Rattle.or_host.specs.Calls.{IsName};
 ghost use Rattle.or_command.specs.Leaves.{Silent};
 ghost use Rattle.or_command.specs.Writes.{files_of, AreFiles, FileWritten, FileStopped, FilesWritten, FilesStopped, AllWritten, WriteStopped};

@@ -1,12 +1,12 @@
 -- What calls in memory leave is what any host may leave.
-use Rattle.std.proofs.Common.{◌≡◌, ◌∙◌, sym, ap, subst, refl, inl, inr, ℕ, List, [], ◌++◌, ◌+◌, ◌≤◌, ◌<◌, ◌/◌, min, length, take, drop, Bool, true, false, Option, Some, None, Ok, Err, arith, append-nil}
+use Rattle.std.proofs.Common.{◌≡◌, ◌∙◌, sym, ap, subst, refl, inl, inr, ℕ, List, [], ◌+◌, ◌≤◌, ◌/◌, min, length, take, drop, Bool, true, false, Option, Some, None, Ok, Err, arith, append-nil}
 use Rattle.std.specs.Prelude.{Result}
 use Rattle.std.specs.Option.{option_map}
 use Rattle.std.proofs.lemmas.List.{take-append-drop, length-take, length-take-le}
 use Rattle.or_host.specs.declared.host.LoadFail.{LoadFail}
 use Rattle.or_host.specs.declared.host.LoadFail.TheVariants.{Failed, TooLong, NoMemory}
 use Rattle.or_host.specs.Bytes.{IsPrefix, AddsPrefix, AddsWhereRoom, half_of}
-use Rattle.or_host.specs.Told.{Content, IsPrefixOfFile, AddsPrefixToFile}
+use Rattle.or_host.specs.Told.{Content, AddsPrefixToFile}
 use Rattle.or_host.specs.Calls.{Takes}
 use Rattle.or_host.specs.Failing.{LoadsBytes, LoadsListed, GrowsListed, AppendsListed, failed_part}
 

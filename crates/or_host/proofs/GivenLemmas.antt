@@ -1,5 +1,5 @@
 -- Files by name, after a name is taken out.
-use Rattle.std.proofs.Common.{◌≡◌, ◌≢◌, ℕ, List, Bool, true, false, None, Some, ap, ◌∙◌, sym, refl, arith, not}
+use Rattle.std.proofs.Common.{◌≡◌, ◌≢◌, ℕ, List, true, false, None, ap, arith, not}
 use Rattle.std.specs.Prelude.{Vec, String, string_bytes}
 use Rattle.std.specs.declared.alloc.Global.{Global}
 use Rattle.std.specs.Option.{option_map}

@@ -1,5 +1,5 @@
 -- Files in memory, by name.
-use Rattle.std.specs.Prelude.{ℕ, List, Option, Some, Vec, String, vec_capacity}
+use Rattle.std.specs.Prelude.{ℕ, List, Vec, String, vec_capacity}
 use Rattle.std.specs.declared.alloc.Global.{Global}
 use Rattle.std.specs.Option.{option_map, option_map_or}
 use Rattle.std.specs.BTreeMap.{BTreeMap, get_by_text}

@@ -1,6 +1,5 @@
 // The host of real files, of which nothing is told.
 ghost use Rattle.std.specs.Prelude.{◌≡◌, [], None};
-ghost use Rattle.or_host.specs.Told.{Content};
 ghost use Rattle.or_host.specs.Calls.{Takes};
 
 use crate::blame::note;

@@ -7,7 +7,6 @@ ghost use Rattle.or_host.specs.Calls.{IsName, dash, Takes, Empties, Extends, Emi
 ghost use Rattle.or_host.specs.declared.host.Deed.{Deed};
 ghost use Rattle.or_host.specs.Blamed.{blamed};
 ghost use Rattle.or_host.specs.Told.{TellsSame};
-ghost use Rattle.or_host.specs.Store.{content_of};
 
 use crate::blame::note;
 use crate::store::{empty_file, grow, grow_file, load_bytes, set_file};

@@ -1,6 +1,5 @@
 // A host that never fails: it holds the files that it is given, and drops what is written.
 ghost use Rattle.std.specs.Prelude.{◌≡◌, ◌≢◌, [], List, ℕ, None, Some, Option, Result, IsOk, MatchOption, unwrap_or, vec_capacity};
-ghost use Rattle.std.specs.Option.{option_map};
 ghost use Rattle.or_host.specs.Given.{given};
 ghost use Rattle.or_host.specs.Failing.{LoadsBytes};
 ghost use Rattle.or_host.specs.Counts.{LoadCounts, WriteCounts, SayCounts};

@@ -1,7 +1,7 @@
 use Rattle.std.proofs.Common.{arith, rules, ◌≡◌, sym, ap, subst, ℕ, List, [], ◌∷◌, ◌++◌, length}
 use Rattle.std.proofs.lemmas.Grind.{common_steps}
 use Rattle.or_command.specs.declared.loading.LoadStop.TheVariants.{NoMemory}
-use Rattle.or_command.specs.Loads.{Load, load_of, loads_of, bytes_of, OneRead, LoadsAll, LoadsSome}
+use Rattle.or_command.specs.Loads.{Load, load_of, loads_of, bytes_of, LoadsAll, LoadsSome}
 use Rattle.or_command.proofs.LoadsLemmas.{empty_list, none_loaded, first_stops, first_lost, later_stops}
 use Rattle.or_command.proofs.loading.+load_files.Goals as goal
 
