@@ -1,0 +1,102 @@
+//! Reservations of words, one for each core, as load-linked and store-conditional instructions make and use them.
+#![tactic(auto)]
+
+ghost use Rattle.std.specs.Prelude.{◌≡◌, ℕ, ◌<◌, ◌++◌, ◌∷◌, [], List, Option, map, Some, None, length, replicate, slice_set};
+ghost use Rattle.or_parts.specs.Reservation.{Mark, stands_by};
+ghost use Rattle.or_resv.specs.Slots.{is_reserved, after_write};
+ghost use Rattle.or_resv.specs.Tracks.{Tracks, mark_of};
+
+use std::marker::Model;
+
+/// The address of the word that each of 8 cores has reserved, if it has one.
+#[derive(Clone, Copy)]
+pub struct Reservations {
+    slots: [Option<u32>; 8],
+}
+
+impl Model for Reservations {
+    ghost use Rattle.std.specs.Prelude.{◌≡◌, ℕ, List, Option, length};
+
+    ghost Value = { List (Option ℕ) };
+
+    ghost view = { λ a. a.slots };
+
+    ghost invariant = { λ a. length a.slots ≡ 8 };
+
+    ghost inverse = { λ slots. record { slots = slots } };
+}
+
+impl Reservations {
+    /// No core has a reservation.
+    pub fn empty() -> Reservations
+        ensures value { result ≡ replicate 8 None }
+        ensures tracks { (writes : List (ℕ × ℕ)) (cores : ℕ) → Tracks result writes (replicate cores None) }
+    {
+        Reservations { slots: [None; 8] }
+    }
+
+    /// The core reserves a word, in the place of whichever it had reserved.
+    #[inline]
+    pub fn reserve(&mut self, core: u32, word: u32)
+        requires { core < 8 }
+        ensures value { self.new ≡ slice_set self.old core (Some word) }
+        ensures tracks { (writes : List (ℕ × ℕ)) (marks : List (Option Mark)) → core < length marks → Tracks self.old writes marks → Tracks self.new writes (slice_set marks core (Some (word, length writes))) }
+    {
+        self.slots[core as usize] = Some(word);
+    }
+
+    /// The core's reservation ends.
+    #[inline]
+    pub fn cancel(&mut self, core: u32)
+        requires { core < 8 }
+        ensures value { self.new ≡ slice_set self.old core None }
+        ensures tracks { (writes : List (ℕ × ℕ)) (marks : List (Option Mark)) → core < length marks → Tracks self.old writes marks → Tracks self.new writes (slice_set marks core None) }
+    {
+        self.slots[core as usize] = None;
+    }
+
+    /// A word was written: every core's reservation of it ends, and no other.
+    #[inline]
+    pub fn wrote(&mut self, word: u32)
+        ensures value { self.new ≡ map (after_write word) self.old }
+        ensures tracks { (writes : List (ℕ × ℕ)) (marks : List (Option Mark)) (core : ℕ) → Tracks self.old writes marks → Tracks self.new (writes ++ (core, word) ∷ []) marks }
+    {
+        clear_word(&mut self.slots, word);
+    }
+
+    /// Whether the core's reservation of a word stands.
+    #[inline]
+    pub fn stands(&self, core: u32, word: u32) -> bool
+        requires { core < 8 }
+        ensures value { result ≡ is_reserved self.now core word }
+        ensures tracks { (writes : List (ℕ × ℕ)) (marks : List (Option Mark)) → Tracks self.now writes marks → result ≡ stands_by writes word (mark_of marks core) }
+    {
+        match self.slots[core as usize] {
+            Some(reserved) => reserved == word,
+            None => false,
+        }
+    }
+}
+
+// A slot after the word was written.
+#[inline]
+fn after_write(word: u32, slot: Option<u32>) -> Option<u32>
+    ensures { result ≡ after_write word slot }
+{
+    match slot {
+        Some(reserved) => { if reserved == word { None } else { slot } }
+        None => None,
+    }
+}
+
+// Ends each reservation of a word.
+#[inline]
+#[tactic(auto, using(std::proofs::lemmas::List::Edits::map_over_more))]
+fn clear_word(slots: &mut [Option<u32>], word: u32)
+    ensures { slots.new ≡ map (after_write word) slots.old }
+{
+    for place in 0..slots.len() {
+        let slot = slots[place];
+        slots[place] = after_write(word, slot);
+    }
+}
