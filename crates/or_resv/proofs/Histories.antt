@@ -1,21 +1,17 @@
 -- How marks and writes move the reservations.
-use Rattle.std.proofs.Common.{◌≡◌, ℕ, ◌+◌, ◌-◌, ◌<◌, ◌≤◌, Bool, true, false, List, [], ◌∷◌, ◌++◌, Some, None, length, drop, refl, ap, sym, ◌∙◌, arith, subst, replicate, length-append}
-use Rattle.std.specs.Prelude.{Option, slice_index_or, slice_set, ◌==◌, ◌&&◌, ◌||◌, not, ◌≢◌, map}
+use Rattle.std.proofs.Common.{◌≡◌, ℕ, zero, suc, ◌≤◌, Bool, true, false, List, [], ◌∷◌, ◌++◌, Some, None, length, drop, refl, ap, sym, ◌∙◌, arith, replicate, length-append}
+use Rattle.std.specs.Prelude.{Option, slice_index_or, ◌==◌, ◌&&◌, ◌||◌, not, map}
 use Rattle.std.specs.List.{list_any}
 use Rattle.std.proofs.lemmas.Bool.Decides.{nat_tests}
-use Rattle.std.proofs.lemmas.Grind.{common_steps}
-use Rattle.std.proofs.lemmas.List.{drop-append-le, drop_all, get_or-set_same, get_or-set_other, get_or-map}
+use Rattle.std.proofs.lemmas.List.{drop-append-le, get_or-map}
 use Rattle.std.proofs.lemmas.List.Folds.{list_any-append}
 use Rattle.or_parts.specs.Reservation.{Mark, is_unwritten_since, stands_by}
-use Rattle.or_resv.specs.Slots.{is_for, is_reserved, after_write}
+use Rattle.or_resv.specs.Slots.{is_for, after_write}
 use Rattle.or_resv.specs.Tracks.{Tracks, mark_of}
 
 -- a slot is for the words that the mark stands for
 abbrev IsSlotOf : List (ℕ × ℕ) → Option Mark → Option ℕ → Type 0
 IsSlotOf writes mark slot = (word : ℕ) → is_for word slot ≡ stands_by writes word mark
-
-slot-marked : (writes : List (ℕ × ℕ)) (word : ℕ) → IsSlotOf writes (Some (word, length writes)) (Some word)
-slot-marked writes word other = rw (drop_all (length writes) writes (omega arith)) (grind (arith, nat_tests))
 
 any_more : (writes : List (ℕ × ℕ)) (c at k word : ℕ) → k ≤ length writes → list_any (λ write. write.1 == word) (drop k (writes ++ (c, at) ∷ [])) ≡ (list_any (λ write. write.1 == word) (drop k writes) || (at == word || false))
 any_more writes c at k word h = ap (list_any (λ write. write.1 == word)) (drop-append-le k writes ((c, at) ∷ []) h) ∙ list_any-append (λ write. write.1 == word) (drop k writes) ((c, at) ∷ [])
@@ -45,18 +41,26 @@ slot-wrote writes c at None slot reached is word = is_for-after_write word at sl
 slot-wrote writes c at (Some mark) slot reached is word =
     is_for-after_write word at slot ∙ ap (λ b. b && not (at == word)) (is word) ∙ sym (unwritten_more writes c at word mark (reached mark.0 mark.1 refl))
 
--- a fact for each place of a list in which place d is new
-set_by : {X : Type 0} (P : X → Type 0) (xs : List X) (d c : ℕ) (x e : X) (same : Bool) → (c == d) ≡ same → d < length xs → (c ≡ d → P x) → (c ≢ d → P (slice_index_or xs c e)) → P (slice_index_or (slice_set xs d x) c e)
-set_by P xs d c x e true test inside here there =
-    let at : c ≡ d = grind (arith, nat_tests) in
-    subst (λ k. P (slice_index_or (slice_set xs d x) k e)) (sym at) (subst P (sym (get_or-set_same xs d x e inside)) (here at))
-set_by P xs d c x e false test inside here there =
-    let apart : c ≢ d = grind (arith, nat_tests) in
-    subst P (sym (get_or-set_other xs d c x e apart)) (there apart)
+none_at : {X : Type 0} (n place : ℕ) → slice_index_or {A = Option X} (replicate n None) place None ≡ None
+none_at zero place = refl
+none_at (suc n) zero = refl
+none_at (suc n) (suc place) = none_at n place
 
--- two lists of which place d is new together
-sets_by : {X Y : Type 0} (P : X → Y → Type 0) (xs : List X) (ys : List Y) (d c : ℕ) (x e : X) (y f : Y) → d < length xs → d < length ys → (c ≡ d → P x y) → (c ≢ d → P (slice_index_or xs c e) (slice_index_or ys c f)) → P (slice_index_or (slice_set xs d x) c e) (slice_index_or (slice_set ys d y) c f)
-sets_by P xs ys d c x e y f inside inside_too here there =
-    set_by (λ p. P p (slice_index_or (slice_set ys d y) c f)) xs d c x e (c == d) refl inside
-        (λ at. set_by (P x) ys d c y f (c == d) refl inside_too here (λ apart. absurd (apart at)))
-        (λ apart. set_by (P (slice_index_or xs c e)) ys d c y f (c == d) refl inside_too (λ at. absurd (apart at)) (λ k. there k))
+-- no slot is for a word, and no core has a mark
+pub tracks-none : (writes : List (ℕ × ℕ)) (cores : ℕ) → Tracks (replicate 8 None) writes (replicate cores None)
+tracks-none writes cores = record {
+  reached = λ c word k is. absurd (none_is_some (sym (none_at cores c) ∙ is));
+  stands = λ c word h. ap (is_for word) (none_at 8 c) ∙ sym (ap (stands_by writes word) (none_at cores c));
+}
+  where
+    none_is_some : {X : Type 0} {x : X} → None ≡ Some x → ⊥
+    none_is_some e = cc
+
+-- a word is written
+pub tracks-write : (slots : List (Option ℕ)) (writes : List (ℕ × ℕ)) (marks : List (Option Mark)) (core word : ℕ) → length slots ≡ 8 → Tracks slots writes marks → Tracks (map (after_write word) slots) (writes ++ (core, word) ∷ []) marks
+tracks-write slots writes marks core word len is = record {
+  reached = λ c at k e. omega (arith, is.reached c at k e, length-append writes ((core, word) ∷ []));
+  stands = λ c at h.
+      ap (is_for at) (get_or-map (after_write word) slots c None None (omega arith))
+      ∙ slot-wrote writes core word (mark_of marks c) (slice_index_or slots c None) (is.reached c) (λ w. is.stands c w h) at;
+}

@@ -100,3 +100,25 @@ fn clear_word(slots: &mut [Option<u32>], word: u32)
         slots[place] = after_write(word, slot);
     }
 }
+
+#[cfg(test)]
+mod tests {
+    use super::*;
+
+    #[test]
+    fn reservations_end(rt: HostRuntime) {
+        let mut reservations = Reservations::empty();
+        reservations.reserve(0, 0x1000);
+        reservations.reserve(1, 0x1000);
+        reservations.reserve(7, 0x1004);
+        assert!(rt; reservations.stands(0, 0x1000) && reservations.stands(1, 0x1000));
+        reservations.wrote(0x1000);
+        assert!(rt; !reservations.stands(0, 0x1000) && !reservations.stands(1, 0x1000));
+        assert!(rt; reservations.stands(7, 0x1004), "no other word was written");
+        reservations.reserve(0, 0x1000);
+        reservations.reserve(0, 0x2000);
+        assert!(rt; !reservations.stands(0, 0x1000) && reservations.stands(0, 0x2000));
+        reservations.cancel(0);
+        assert!(rt; !reservations.stands(0, 0x2000) && reservations.stands(7, 0x1004));
+    }
+}
