@@ -3,3 +3,4 @@ pub mod Caches
 pub mod Tracks
 pub mod Reserved
 pub mod Worlds
+pub mod Regions

@@ -1,5 +1,7 @@
 -- What a call of the bus answers, and the state that it leaves.
-use Rattle.std.specs.Prelude.{◌≡◌, Option, Some, None, Result, Ok, Err}
+use Rattle.std.specs.Prelude.{◌≡◌, ℕ, ◌%◌, ◌==◌, ◌&&◌, nat_lt, if◌then◌else◌, List, length, Option, Some, None, Result, Ok, Err}
+use Rattle.or_words.specs.declared.Width.TheVariants.{Word}
+use Rattle.or_parts.specs.Memory.{value_at}
 use Rattle.or_model.specs.World.{World}
 use Rattle.or_model.specs.Bus.{Answer}
 use Rattle.or_bus.specs.declared.BusError.{BusError}
@@ -19,3 +21,7 @@ IsStored (Some after) (Ok done) bus = Represents bus after
 IsStored None (Err e) bus = Unit {0}
 IsStored (Some after) (Err e) bus = ⊥
 IsStored None (Ok done) bus = ⊥
+
+-- the word that is shown at an address: none where the address is no multiple of four or not in RAM
+abbrev pub word_shown : List ℕ → ℕ → Option ℕ
+word_shown ram pa = if pa % 4 == 0 && nat_lt pa (length ram) then Some (value_at ram pa Word) else None

@@ -5,4 +5,5 @@ pub mod Represents
 pub mod Answers
 pub mod Narrow
 pub mod Lines
+pub mod Places
 pub mod Last

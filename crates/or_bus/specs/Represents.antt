@@ -12,6 +12,8 @@ use Rattle.or_bus.specs.Lines.{holds}
 -- the bus is in the state that the world says
 pub record Represents (bus : BusState) (world : World) : Type 0 where
   pub ram : bus.ram ≡ world.ram
+  pub uart : bus.uart ≡ world.uart
+  pub ompic : bus.ompic ≡ world.ompic
   pub valid : IsValid world bus.cores
   pub writes : bus.writes ≡ min (length world.writes) last_count
   -- a core holds the lines that Held names

@@ -6,6 +6,8 @@ mod access;
 mod bus;
 mod loads;
 mod narrow;
+mod readers;
+mod region;
 mod stores;
 
 pub use access::{Access, AccessKind};

@@ -18,7 +18,7 @@ use crate::BusError;
 use crate::access::AccessKind;
 use crate::bus::Bus;
 use crate::narrow::{narrow, word_of};
-use or_model::Fetched;
+use or_model::{Fetched, Region};
 use or_words::Width;
 
 impl Bus {
@@ -50,6 +50,7 @@ impl Bus {
         ensures hit { (world : World) → Represents self.old world → held world.accesses core (line_of pa) ≡ true → self.new.reads ≡ self.old.reads }
         ensures miss { (world : World) → Represents self.old world → held world.accesses core (line_of pa) ≡ false → self.new.reads ≡ counted_up self.old.reads }
         ensures cores { self.new.cores ≡ self.old.cores }
+        ensures spare { self.new.spare ≡ self.old.spare }
     {
         match self.look(core, pa) {
             Some(word) => {
@@ -71,6 +72,7 @@ impl Bus {
         ensures value { result ≡ value_at self.old.ram pa Word }
         ensures tracks { (world : World) → Represents self.old world → Represents self.new (after_load world core pa false) }
         ensures cores { self.new.cores ≡ self.old.cores }
+        ensures spare { self.new.spare ≡ self.old.spare }
     {
         self.read_word(pa)
     }
@@ -86,6 +88,7 @@ impl Bus {
         ensures hit { cached ≡ true → (world : World) → Represents self.old world → held world.accesses core (line_of pa) ≡ true → self.new.reads ≡ self.old.reads }
         ensures miss { cached ≡ true → (world : World) → Represents self.old world → held world.accesses core (line_of pa) ≡ false → self.new.reads ≡ counted_up self.old.reads }
         ensures cores { self.new.cores ≡ self.old.cores }
+        ensures spare { self.new.spare ≡ self.old.spare }
     {
         if cached {
             self.load_cached(core, pa)
@@ -107,6 +110,7 @@ impl Bus {
         ensures hit { cached ≡ true → (world : World) → Represents self.old world → held world.accesses core (line_of pa) ≡ true → self.new.reads ≡ self.old.reads }
         ensures miss { cached ≡ true → (world : World) → Represents self.old world → held world.accesses core (line_of pa) ≡ false → self.new.reads ≡ counted_up self.old.reads }
         ensures cores { self.new.cores ≡ self.old.cores }
+        ensures spare { self.new.spare ≡ self.old.spare }
     {
         let word = self.load_word(core, pa - pa % 4, cached);
         narrow(word, pa % 4, width)
@@ -125,6 +129,7 @@ impl Bus {
         ensures miss { cached ≡ true → (world : World) → Represents self.old world → held world.accesses core (line_of pa) ≡ false → self.new.reads ≡ counted_up self.old.reads }
         ensures last { self.new.last ≡ Some (access_of core pa AccessKind.Load) }
         ensures cores { self.new.cores ≡ self.old.cores }
+        ensures spare { self.new.spare ≡ self.old.spare }
     {
         let value = self.load_part(core, pa, width, cached);
         self.note(core, pa, AccessKind::Load);
@@ -139,6 +144,7 @@ impl Bus {
         ensures err { OnErr result (self.new ≡ self.old) }
         ensures last { self.new.last ≡ self.old.last }
         ensures cores { self.new.cores ≡ self.old.cores }
+        ensures spare { self.new.spare ≡ self.old.spare }
     {
         if !self.has_ram(pa) {
             return Err(BusError);
@@ -167,11 +173,32 @@ impl Bus {
         ensures miss { cached ≡ true → (world : World) → Represents self.old world → held world.accesses core (line_of pa) ≡ false → self.new.reads ≡ counted_up self.old.reads }
         ensures last { self.new.last ≡ Some (access_of core pa AccessKind.Linked) }
         ensures cores { self.new.cores ≡ self.old.cores }
+        ensures spare { self.new.spare ≡ self.old.spare }
     {
         let value = self.load_word(core, pa, cached);
         self.reserve(core, pa);
         self.note(core, pa, AccessKind::Linked);
         value
+    }
+
+    /// A load of a width at an aligned address; the value is not extended. RAM answers, the UART answers bytes, and the ompic answers words.
+    pub fn load(&mut self, core: u32, pa: u32, width: Width, cached: bool) -> Result<u32, BusError>
+        requires core { core < self.old.cores }
+        requires aligned { pa % bytes_of width ≡ 0 }
+        ensures answer { (world : World) → Represents self.old world → IsAnswer (load world core pa width cached) result self.new }
+        ensures err { OnErr result (self.new ≡ self.old) }
+        ensures hit { OnOk result (cached ≡ true → (world : World) → Represents self.old world → held world.accesses core (line_of pa) ≡ true → self.new.reads ≡ self.old.reads) }
+        ensures miss { OnOk result (cached ≡ true → pa < 2 ^ 31 → (world : World) → Represents self.old world → held world.accesses core (line_of pa) ≡ false → self.new.reads ≡ counted_up self.old.reads) }
+        ensures last { self.new.last ≡ last_after self.old core pa AccessKind.Load }
+        ensures cores { self.new.cores ≡ self.old.cores }
+        ensures spare { self.new.spare ≡ self.old.spare }
+    {
+        match self.region(pa, width) {
+            Region::Ram => Ok(self.load_ram(core, pa, width, cached)),
+            Region::Uart(reg) => Ok(self.read_uart(reg) as u32),
+            Region::Ompic(offset) => Ok(self.read_ompic(offset)),
+            Region::Nothing => Err(BusError),
+        }
     }
 
     /// A load that reserves its word (l.lwa) at an address, a multiple of four. Only RAM answers.
@@ -185,6 +212,7 @@ impl Bus {
         ensures miss { OnOk result (cached ≡ true → (world : World) → Represents self.old world → held world.accesses core (line_of pa) ≡ false → self.new.reads ≡ counted_up self.old.reads) }
         ensures last { OnOk result (self.new.last ≡ Some (access_of core pa AccessKind.Linked)) }
         ensures cores { self.new.cores ≡ self.old.cores }
+        ensures spare { self.new.spare ≡ self.old.spare }
     {
         if !self.has_ram(pa) {
             return Err(BusError);

@@ -8,4 +8,4 @@ pub invariant_of-self : goal.invariant_of-self
 invariant_of-self c =
     let inside = c.self.inside in
     let cores = ap (λ (b : BusState). b.cores) c.self.view_is in
-    sound-dropped inside.cores _ inside.caches _ _ _ c.args.core c.args.pa c.self.invariant (omega arith) c.drop_line.ensures
+    sound-dropped inside.cores _ inside.caches _ _ _ _ c.args.core c.args.pa c.self.invariant (omega arith) c.drop_line.ensures

@@ -13,5 +13,5 @@ invariant_of-self c =
     let cores = ap (λ (b : BusState). b.cores) c.self.view_is in
     let long = ap (λ (b : BusState). length b.ram) c.self.view_is in
     let line = c.requires.true_line ∙ ap (λ (b : BusState). line_bytes b.ram c.args.pa) (sym c.self.view_is) in
-    sound-kept inside.cores _ inside.caches _ _ _ c.args.core c.args.pa c.self.invariant (omega arith) (omega (arith, c.requires.inside))
+    sound-kept inside.cores _ inside.caches _ _ _ _ c.args.core c.args.pa c.self.invariant (omega arith) (omega (arith, c.requires.inside))
     (c.fill.ensures.filled ∙ ap (λ (bytes : List ℕ). slice_set inside.caches c.args.core (line_filled (cache_of inside.caches c.args.core) c.args.pa bytes)) line)
