@@ -1,0 +1,6 @@
+pub mod Ranges
+pub mod Caches
+pub mod Tracks
+pub mod Reserved
+pub mod Worlds
+pub mod Regions

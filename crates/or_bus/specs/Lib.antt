@@ -1,0 +1,9 @@
+pub mod State
+pub mod Coherence
+pub mod Writing
+pub mod Represents
+pub mod Answers
+pub mod Narrow
+pub mod Lines
+pub mod Places
+pub mod Last
