@@ -1,0 +1,4 @@
+pub mod Header
+pub mod Image
+pub mod Fault
+pub mod Placed

@@ -1,0 +1,15 @@
+//! Reads and writes ELF32 files for a board of big-endian cores with 32 bits.
+#![tactic(auto)]
+
+mod fault;
+mod image;
+mod reader;
+mod segment;
+
+pub use fault::ElfFault;
+pub use image::Image;
+pub use reader::read;
+pub use segment::Segment;
+
+#[cfg(test)]
+mod tests;
