@@ -16,11 +16,10 @@ const FILE: [u8; 100] = [
 
 const MIB: u32 = 1024 * 1024;
 
-// The file with another word at an offset.
-fn changed(at: usize, word: u32) -> [u8; 100]
+// The file with this word at this offset.
+fn changed(mut file: [u8; 100], at: usize, word: u32) -> [u8; 100]
     requires { at ≤ 96 }
 {
-    let mut file = FILE;
     BigEndian::write_u32(&mut file[at..], word);
     file
 }
@@ -84,7 +83,7 @@ fn changed_words(rt: HostRuntime) {
     for (at, word, number, place) in cases {
         assert!(rt; at <= 96);
         assert_eq!(rt;
-            fault_of(&changed(at, word), MIB),
+            fault_of(&changed(FILE, at, word), MIB),
             (number, place),
             "{at} {word:08x}"
         );
@@ -93,11 +92,10 @@ fn changed_words(rt: HostRuntime) {
 
 #[test]
 fn segments_at_the_end_of_ram(rt: HostRuntime) {
-    let mut file = changed(64, 0x000f_fff0);
-    assert_eq!(rt; fault_of(&file, MIB), (0, 0));
-    BigEndian::write_u32(&mut file[72..], 0x11);
-    assert_eq!(rt; fault_of(&file, MIB), (6, 0));
-    let mut file = changed(64, 0xffff_ffff);
-    BigEndian::write_u32(&mut file[72..], 0xffff_ffff);
-    assert_eq!(rt; fault_of(&file, MIB), (6, 0));
+    let last = changed(FILE, 64, 0x000f_fff0);
+    assert_eq!(rt; fault_of(&last, MIB), (0, 0));
+    let past = changed(last, 72, 0x11);
+    assert_eq!(rt; fault_of(&past, MIB), (6, 0));
+    let far = changed(changed(FILE, 64, 0xffff_ffff), 72, 0xffff_ffff);
+    assert_eq!(rt; fault_of(&far, MIB), (6, 0));
 }
