@@ -2,3 +2,4 @@ pub mod Header
 pub mod Image
 pub mod Fault
 pub mod Placed
+pub mod Text

@@ -5,11 +5,13 @@ mod fault;
 mod image;
 mod reader;
 mod segment;
+mod writer;
 
 pub use fault::ElfFault;
 pub use image::Image;
 pub use reader::read;
 pub use segment::Segment;
+pub use writer::write;
 
 #[cfg(test)]
 mod tests;

@@ -2,6 +2,8 @@ ghost use Rattle.std.specs.Prelude.{◌≤◌, length};
 
 use super::*;
 use byteorder::{BigEndian, ByteOrder};
+use or_isa::{Piece, Program};
+use std::alloc::Global;
 
 // A file of one segment of 16 bytes: four instructions at 00000100.
 const FILE: [u8; 100] = [
@@ -98,4 +100,23 @@ fn segments_at_the_end_of_ram(rt: HostRuntime) {
     assert_eq!(rt; fault_of(&past, MIB), (6, 0));
     let far = changed(changed(FILE, 64, 0xffff_ffff), 72, 0xffff_ffff);
     assert_eq!(rt; fault_of(&far, MIB), (6, 0));
+}
+
+#[test]
+fn the_file_of_a_program(rt: HostRuntime) {
+    let alloc: Global = rt.alloc();
+    let words = vec![in alloc; 0x1860_9000, 0x9c80_0048, 0xd803_2000, 0x1500_0001].expect(
+        &rt, "memory",
+    );
+    let pieces = vec![in alloc;
+        Piece {
+            place: 0x100,
+            words
+        },
+    ]
+    .expect(&rt, "memory");
+    let program = Program { pieces };
+    let mut out = Vec::new(alloc);
+    assert!(rt; write(&program, &mut out).is_ok());
+    assert_eq!(rt; out.as_slice(), FILE.as_slice());
 }
