@@ -1,5 +1,5 @@
 -- Segments are found one program header after another.
-use Rattle.std.proofs.Common.{◌≡◌, ◌∙◌, ap, sym, refl, ℕ, suc, ◌+◌, ◌-◌, ◌*◌, ◌<◌, ◌≤◌, List, [], ◌∷◌, ◌++◌, length, true, false, eqb, cond, append_assoc, arith, append-nil, length-append}
+use Rattle.std.proofs.Common.{◌≡◌, ◌∙◌, ap, sym, ℕ, suc, ◌+◌, ◌-◌, ◌<◌, ◌≤◌, List, [], ◌∷◌, ◌++◌, length, false, eqb, append_assoc, arith, append-nil, length-append}
 use Rattle.or_elf.specs.declared.segment.Segment.{Segment}
 use Rattle.or_elf.specs.Header.{word_at, header_start, segment_at, segments_among}
 

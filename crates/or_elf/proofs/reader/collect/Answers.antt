@@ -1,4 +1,4 @@
-use Rattle.std.proofs.Common.{arith, rules, ◌≡◌, ◌++◌, ◌∷◌, [], ap}
+use Rattle.std.proofs.Common.{rules, ◌≡◌, ◌++◌, ◌∷◌, [], ap}
 use Rattle.or_elf.specs.Header.{segments, segment_at}
 use Rattle.or_elf.proofs.Headers.{segment_taken, header_passed, none_left, room_taken, room_passed}
 use Rattle.or_elf.proofs.reader.collect.Goals as goal
