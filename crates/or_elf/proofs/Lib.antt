@@ -1,2 +1,4 @@
 pub mod Headers
 pub mod Faults
+pub mod Parts
+pub mod LoadsAlike

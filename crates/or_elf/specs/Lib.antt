@@ -3,3 +3,4 @@ pub mod Image
 pub mod Fault
 pub mod Placed
 pub mod Text
+pub mod Loading
