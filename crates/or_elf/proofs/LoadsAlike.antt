@@ -4,7 +4,7 @@ use Rattle.std.specs.List.{filter, range_with_len, fold, All}
 use Rattle.or_elf.specs.declared.fault.ElfFault.{ElfFault}
 use Rattle.or_elf.specs.declared.fault.ElfFault.TheVariants.{BadIdent, BadHeader, Short}
 use Rattle.or_elf.specs.declared.segment.Segment.{Segment}
-use Rattle.or_elf.specs.Header.{half_at, word_at, table_start, header_count, header_start, is_load, segment_at, segments_among, segments}
+use Rattle.or_elf.specs.Header.{word_at, table_start, header_count, header_start, is_load, segment_at, segments_among, segments}
 use Rattle.or_elf.specs.Fault.{or_else, first_difference, ident_fault, field_fault, header_fault, table_fault, segments_fault, elf_fault}
 use Rattle.or_elf.specs.Placed.{place_segment, placed}
 use Rattle.or_elf.specs.Loading.{part, LoadsAlike}

@@ -1,6 +1,6 @@
 -- Numbers at an offset, from a part of a list that holds them.
-use Rattle.std.proofs.Common.{◌≡◌, ◌∙◌, ap, sym, refl, ℕ, zero, suc, ◌+◌, ◌-◌, ◌*◌, ◌<◌, ◌≤◌, List, [], ◌∷◌, ◌++◌, length, take, drop, get_or, arith}
-use Rattle.std.proofs.lemmas.List.{get_or-take, get_or-drop, drop-drop}
+use Rattle.std.proofs.Common.{◌≡◌, ◌∙◌, ap, sym, refl, ℕ, zero, suc, ◌+◌, ◌-◌, ◌<◌, ◌≤◌, List, drop, get_or, arith}
+use Rattle.std.proofs.lemmas.List.{get_or-take, get_or-drop}
 use Rattle.byteorder.specs.Endian.{big_from, big_number}
 use Rattle.or_elf.specs.Header.{half_at, word_at}
 use Rattle.or_elf.specs.Loading.{part}
