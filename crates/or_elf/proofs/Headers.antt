@@ -1,7 +1,8 @@
 -- Segments are found one program header after another.
-use Rattle.std.proofs.Common.{◌≡◌, ◌∙◌, ap, sym, ℕ, suc, ◌+◌, ◌-◌, ◌<◌, ◌≤◌, List, [], ◌∷◌, ◌++◌, length, false, eqb, append_assoc, arith, append-nil, length-append}
+use Rattle.std.proofs.Common.{◌≡◌, ap, ℕ, ◌+◌, ◌-◌, ◌<◌, ◌≤◌, ◌==◌, List, [], ◌∷◌, ◌++◌, length, false, eqb, arith, length-append}
 use Rattle.or_elf.specs.declared.segment.Segment.{Segment}
-use Rattle.or_elf.specs.Header.{word_at, header_start, segment_at, segments_among}
+use Rattle.or_elf.specs.Header.{word_at, header_start, is_load, segment_at, segments_among}
+use Rattle.or_elf.proofs.Ranges.{kept_taken, kept_passed, kept_none}
 
 -- a header of type 1 is the next segment
 pub segment_taken : (bytes : List ℕ) (index count : ℕ) (old new whole : List Segment) → index < count
@@ -9,11 +10,7 @@ pub segment_taken : (bytes : List ℕ) (index count : ℕ) (old new whole : List
     → old ++ segments_among bytes index (count - index) ≡ whole → new ++ segments_among bytes (index + 1) (count - (index + 1)) ≡ whole
 unfolding segments_among
 segment_taken bytes index count old new whole more is_one taken read =
-    let e : count - index ≡ suc (count - (index + 1)) = omega arith in
-    let shape : segments_among bytes index (count - index) ≡ segment_at bytes index ∷ segments_among bytes (index + 1) (count - (index + 1)) = rw (e, is_one) in
-    ap (λ s. s ++ segments_among bytes (index + 1) (count - (index + 1))) taken
-    ∙ append_assoc old (segment_at bytes index ∷ []) (segments_among bytes (index + 1) (count - (index + 1)))
-    ∙ ap (λ s. old ++ s) (sym shape) ∙ read
+    kept_taken (segment_at bytes) (is_load bytes) index count old new whole more (ap (λ kind. kind == 1) is_one) taken read
 
 -- another header is passed over
 pub header_passed : (bytes : List ℕ) (index count : ℕ) (old new whole : List Segment) → index < count
@@ -21,9 +18,7 @@ pub header_passed : (bytes : List ℕ) (index count : ℕ) (old new whole : List
     → old ++ segments_among bytes index (count - index) ≡ whole → new ++ segments_among bytes (index + 1) (count - (index + 1)) ≡ whole
 unfolding segments_among
 header_passed bytes index count old new whole more other same read =
-    let e : count - index ≡ suc (count - (index + 1)) = omega arith in
-    let shape : segments_among bytes index (count - index) ≡ segments_among bytes (index + 1) (count - (index + 1)) = rw (e, other) in
-    ap (λ s. s ++ segments_among bytes (index + 1) (count - (index + 1))) same ∙ ap (λ s. old ++ s) (sym shape) ∙ read
+    kept_passed (segment_at bytes) (is_load bytes) index count old new whole more other same read
 
 -- one more segment, or none, has room
 pub room_taken : (index : ℕ) (old new : List Segment) (segment : Segment) → new ≡ old ++ segment ∷ [] → length old ≤ index → length new ≤ index + 1
@@ -35,7 +30,4 @@ room_passed index old new same room = omega (arith, ap length same)
 -- behind the last header there is none
 pub none_left : (bytes : List ℕ) (index count : ℕ) (old whole : List Segment) → count ≤ index → old ++ segments_among bytes index (count - index) ≡ whole → old ≡ whole
 unfolding segments_among
-none_left bytes index count old whole done read =
-    let e : count - index ≡ 0 = omega arith in
-    let shape : segments_among bytes index (count - index) ≡ [] = rw e in
-    sym (append-nil old) ∙ ap (λ s. old ++ s) (sym shape) ∙ read
+none_left bytes index count old whole done read = kept_none (segment_at bytes) (is_load bytes) index count old whole done read

@@ -1,4 +1,7 @@
+pub mod Ranges
 pub mod Headers
+pub mod Tables
+pub mod Starts
 pub mod Faults
 pub mod Parts
 pub mod LoadsAlike

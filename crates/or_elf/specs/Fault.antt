@@ -26,7 +26,7 @@ place_of (SegmentOutOfRam index) = index
 place_of (FileSizeOverMemSize index) = index
 
 -- the first fault, or else what the next test finds
-abbrev pub or_else : Option ElfFault → Option ElfFault → Option ElfFault
+abbrev pub or_else : {F : Type 0} → Option F → Option F → Option F
 or_else (Some fault) next = Some fault
 or_else None next = next
 

@@ -4,3 +4,4 @@ pub mod Fault
 pub mod Placed
 pub mod Text
 pub mod Loading
+pub mod Symbols

@@ -4,9 +4,9 @@ ghost use Rattle.std.specs.List.{All};
 ghost use Rattle.or_elf.specs.Header.{half_at, word_at, table_start, header_count, header_start, segment_at, segments};
 ghost use Rattle.or_elf.specs.Fault.{elf_fault, length_fault, ident_fault, header_fault, table_fault, segment_fault, segments_fault, field_fault, IsInside};
 
+use crate::fields::{half, word};
 use crate::{ElfFault, Image, Segment};
 use arrayvec::ArrayVec;
-use byteorder::{BigEndian, ByteOrder};
 
 /// The segments of a file for a board with `ram` bytes of RAM, or the file's first fault: the file is 32 bits,
 /// big-endian, executable, for OpenRISC and of version 1 (ELF gABI, "ELF Header"), it has 1 to 64 program headers,
@@ -62,22 +62,6 @@ fn check_byte(bytes: &[u8], at: u32, wanted: u8) -> Result<(), ElfFault>
     } else {
         Err(ElfFault::BadIdent { at })
     }
-}
-
-#[tactic(auto, unfolding(crate::specs::Header::half_at))]
-fn half(bytes: &[u8], at: usize) -> u16
-    requires { at + 2 ≤ length bytes.now }
-    ensures { result ≡ half_at bytes.now at }
-{
-    BigEndian::read_u16(&bytes[at..])
-}
-
-#[tactic(auto, unfolding(crate::specs::Header::word_at))]
-fn word(bytes: &[u8], at: usize) -> u32
-    requires { at + 4 ≤ length bytes.now }
-    ensures { result ≡ word_at bytes.now at }
-{
-    BigEndian::read_u32(&bytes[at..])
 }
 
 fn check_field(field: u32, found: u32, wanted: u32) -> Result<(), ElfFault>
