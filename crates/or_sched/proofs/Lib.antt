@@ -1,0 +1,3 @@
+pub mod RunLemmas
+pub mod ExpandLemmas
+pub mod Zeros

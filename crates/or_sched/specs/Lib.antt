@@ -1,0 +1,5 @@
+pub mod Runs
+pub mod Blocks
+pub mod HeadText
+pub mod RecText
+pub mod Schedule

@@ -1,0 +1,11 @@
+//! Recordings: the text that keeps the order of a run's turns.
+#![tactic(auto)]
+
+pub mod laws;
+mod recording;
+#[cfg(test)]
+mod tests;
+mod writer;
+
+pub use recording::{Head, Mark};
+pub use writer::write;
