@@ -1,3 +1,16 @@
 pub mod RunLemmas
 pub mod ExpandLemmas
 pub mod Zeros
+pub mod Numbers
+pub mod Steps
+pub mod Fields
+pub mod PlaceLemmas
+pub mod StepLemmas
+pub mod Witness
+pub mod Pushes
+pub mod EndedLemmas
+pub mod Lengths
+pub mod Bridge
+pub mod BodyLemmas
+pub mod BlockTexts
+pub mod BlockTurns

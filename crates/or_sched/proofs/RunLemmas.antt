@@ -17,12 +17,13 @@ last_run (turn ∷ rest) core count left room before mid whole short run text = 
 pub next_block : (block : ℕ) (mark : Mark) (after marks : List Mark) (front later rest before mid now whole : List ℕ)
     → marks ≡ mark ∷ after → front ≡ take block rest → later ≡ drop block rest
     → mid ≡ before ++ block_text front → now ≡ mid ++ mark_line mark
-    → before ++ blocks_text block rest marks ≡ whole → now ++ blocks_text block later after ≡ whole
+    → before ++ blocks_text block marks rest ≡ whole → now ++ blocks_text block after later ≡ whole
 next_block block mark after marks front later rest before mid now whole parts is_front is_later wrote marked text =
-    let shape : blocks_text block rest marks ≡ block_text front ++ mark_line mark ++ blocks_text block later after = rw (parts, ← is_front, ← is_later) in
-    let here : now ≡ before ++ (block_text front ++ mark_line mark) = marked ∙ ap (λ m. m ++ mark_line mark) wrote ∙ append_assoc before (block_text front) (mark_line mark) in
-    let joined : now ++ blocks_text block later after ≡ before ++ blocks_text block rest marks =
-    ap (λ m. m ++ blocks_text block later after) here ∙ append_assoc before (block_text front ++ mark_line mark) (blocks_text block later after) ∙ ap (λ m. before ++ m) (sym shape) in
+    let shape : blocks_text block marks rest ≡ block_text front ++ (mark_line mark ++ blocks_text block after later) = rw (parts, ← is_front, ← is_later) in
+    let here : now ≡ (before ++ block_text front) ++ mark_line mark = marked ∙ ap (λ m. m ++ mark_line mark) wrote in
+    let joined : now ++ blocks_text block after later ≡ before ++ blocks_text block marks rest =
+    ap (λ m. m ++ blocks_text block after later) here ∙ append_assoc (before ++ block_text front) (mark_line mark) (blocks_text block after later)
+    ∙ append_assoc before (block_text front) (mark_line mark ++ blocks_text block after later) ∙ ap (λ m. before ++ m) (sym shape) in
     joined ∙ text
 
 -- the marks that are left have their blocks

@@ -3,3 +3,8 @@ pub mod Blocks
 pub mod HeadText
 pub mod RecText
 pub mod Schedule
+pub mod RunRests
+pub mod BlockRests
+pub mod Places
+pub mod Ended
+pub mod Body

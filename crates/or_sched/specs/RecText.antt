@@ -12,4 +12,4 @@ rec_text1 head turns = head_text1 head ++ block_text turns
 
 -- version 2: behind each whole block of 65536 turns stands its mark
 unfoldable pub rec_text2 : Head → List ℕ → List Mark → List ℕ
-rec_text2 head turns marks = head_text2 head ++ blocks_text 65536 turns marks
+rec_text2 head turns marks = head_text2 head ++ blocks_text 65536 marks turns

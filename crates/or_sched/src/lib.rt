@@ -2,7 +2,9 @@
 #![tactic(auto)]
 
 pub mod laws;
+mod places;
 mod recording;
+mod step;
 #[cfg(test)]
 mod tests;
 mod writer;

@@ -100,7 +100,7 @@ fn append_blocks(
 ) -> Result<(), AllocError>
     requires marks { block * length marks.now ≤ length turns.now }
     requires cores { All (λ turn. turn < 8) turns.now }
-    ensures { OnOk result (out.new.items ≡ out.old.items ++ blocks_text block turns.now marks.now) }
+    ensures { OnOk result (out.new.items ≡ out.old.items ++ blocks_text block marks.now turns.now) }
 {
     let mut rest = turns;
     let mut marks_left = marks;

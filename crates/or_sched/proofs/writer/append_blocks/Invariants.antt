@@ -5,7 +5,7 @@ use Rattle.or_sched.proofs.writer.append_blocks.Given as goal
 
 abbrev pub invariant-loop-mark : goal.invariant-loop-mark
 invariant-loop-mark l = record {
-  text : l.out.items ++ blocks_text l.block l.rest l.marks_left ≡ l.initial.out.items ++ blocks_text l.block l.turns l.marks;
+  text : l.out.items ++ blocks_text l.block l.marks_left l.rest ≡ l.initial.out.items ++ blocks_text l.block l.marks l.turns;
   marks : l.block * length l.marks_left ≤ length l.rest;
   cores : All (λ turn. turn < 8) l.rest;
 }
