@@ -14,3 +14,8 @@ pub mod Bridge
 pub mod BodyLemmas
 pub mod BlockTexts
 pub mod BlockTurns
+pub mod Digests
+pub mod HeadLemmas
+pub mod HeadSteps
+pub mod HeadTexts
+pub mod HeadWitness

@@ -22,4 +22,3 @@ pub record IsBody2 (cores limit block : ℕ) (bytes turns : List ℕ) (marks : L
   pub whole : block * length marks ≤ length turns
   pub part : length turns < block * length marks + block
   pub numbers : AreMarksAfter block 0 marks
-

@@ -8,3 +8,4 @@ pub mod BlockRests
 pub mod Places
 pub mod Ended
 pub mod Body
+pub mod HeadPlaces

@@ -1,6 +1,7 @@
 //! Recordings: the text that keeps the order of a run's turns.
 #![tactic(auto)]
 
+mod head;
 pub mod laws;
 mod places;
 mod recording;
