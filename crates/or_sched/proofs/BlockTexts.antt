@@ -14,7 +14,7 @@ use Rattle.or_sched.specs.Blocks.{Item, run_item, mark_line}
 use Rattle.or_sched.specs.BlockRests.{Later, items, later_items, Behind, behind_of}
 use Rattle.or_sched.specs.Places.{Completes, Decoded, AreLimits}
 use Rattle.or_sched.specs.Body.{IsBody2}
-use Rattle.or_sched.specs.Blocks.{blocks_text}
+use Rattle.or_sched.specs.Blocks.{blocks_text, blocks_items}
 use Rattle.or_sched.specs.Schedule.{AreMarksAfter}
 use Rattle.or_sched.specs.Blocks.{turns_of, marks_of}
 use Rattle.or_sched.proofs.Steps.{opened, letter_back}
@@ -30,11 +30,12 @@ record BlockRuns (cores left : ℕ) (turns : List ℕ) : Type 0 where
   pub follow : Follow cores cores left (run ∷ others)
   pub after : left_after left (run ∷ others) ≡ left - length turns
   pub whole : expand (run ∷ others) ≡ turns
+  pub is : runs turns ≡ run ∷ others
 
 block_runs_by : (cores left turn : ℕ) (turns : List ℕ) (all : List (ℕ × ℕ)) → runs_after turn 1 turns ≡ all → AreRuns cores cores left turn 1 turns all → BlockRuns cores left (turn ∷ turns)
 block_runs_by cores left turn turns [] e r = absurd (omega (arith, r.some))
 block_runs_by cores left turn turns (run ∷ others) e r =
-    record { run = run; others = others; text = ap (lines_text 16) e; follow = r.follow; after = omega (arith, r.after); whole = r.whole }
+    record { run = run; others = others; text = ap (lines_text 16) e; follow = r.follow; after = omega (arith, r.after); whole = r.whole; is = e }
 
 block_runs : (cores left : ℕ) (turns : List ℕ) → 0 < length turns → length turns ≤ left → AreTurns cores turns → BlockRuns cores left turns
 block_runs cores left [] some fits are = absurd (omega arith)
@@ -61,6 +62,7 @@ record BlocksTo (limits : Limits) (total : ℕ) (bytes turns : List ℕ) (marks 
   pub behind : Behind limits (behind_of limits total) (left_after (min total limits.block) (run ∷ others)) after later
   pub turns_are : turns_of (items (run ∷ others) later) ≡ turns
   pub marks_are : marks_of (items (run ∷ others) later) ≡ marks
+  pub items_are : items (run ∷ others) later ≡ blocks_items limits.block marks turns
 
 pub marks_of_runs : (all : List (ℕ × ℕ)) (decoded : List Item) → marks_of (map run_item all ++ decoded) ≡ marks_of decoded
 marks_of_runs [] decoded = refl
@@ -90,6 +92,7 @@ last_block limits total bytes turns some fits part are text =
       behind = subst (λ k. Behind limits (behind_of limits total) k [] []) (sym r.after) (part_behind limits total (length turns) (omega arith) part);
       turns_are = turns_of_runs (r.run ∷ r.others) [] ∙ append-nil (expand (r.run ∷ r.others)) ∙ r.whole;
       marks_are = marks_of_runs (r.run ∷ r.others) [];
+      items_are = append-nil (map run_item (r.run ∷ r.others)) ∙ ap (map run_item) (sym r.is);
     }
 
 -- a whole block, its mark, and what stands behind it
@@ -98,6 +101,7 @@ record Onwards (limits : Limits) (total : ℕ) (mark : Mark) (text turns : List 
   pub behind : Behind limits (Some total) 0 text later
   pub turns_are : turns_of (later_items later) ≡ turns
   pub marks_are : marks_of (later_items later) ≡ mark ∷ marks
+  pub items_are : later_items later ≡ inr mark ∷ blocks_items limits.block marks turns
 
 first_block : (limits : Limits) (total : ℕ) (bytes turns text : List ℕ) (mark : Mark) (marks : List Mark) → 1 ≤ limits.block → limits.block ≤ length turns → length turns ≤ total → AreTurns limits.cores turns
     → bytes ≡ block_text (take limits.block turns) ++ text → Onwards limits (total - limits.block) mark text (drop limits.block turns) marks → BlocksTo limits total bytes turns (mark ∷ marks)
@@ -119,6 +123,8 @@ first_block limits total bytes turns text mark marks some whole fits are e o =
       turns_are = turns_of_runs (r.run ∷ r.others) (later_items o.later) ∙ ap (λ t. expand (r.run ∷ r.others) ++ t) o.turns_are
           ∙ ap (λ t. t ++ drop limits.block turns) r.whole ∙ take-append-drop limits.block turns;
       marks_are = marks_of_runs (r.run ∷ r.others) (later_items o.later) ∙ o.marks_are;
+      items_are = ap (λ l. map run_item (r.run ∷ r.others) ++ l) o.items_are
+          ∙ ap (λ a. map run_item a ++ inr mark ∷ blocks_items limits.block marks (drop limits.block turns)) (sym r.is);
     }
 
 onwards_some : (limits : Limits) (total made : ℕ) (turns : List ℕ) (mark : Mark) (marks : List Mark) → made + total ≡ limits.turns → mark.writes ≤ made → mark.console ≤ made
@@ -128,6 +134,7 @@ onwards_some limits total made turns mark marks sum writes console r = record {
   behind = (r.after, ap (λ t. mark_line mark ++ t) r.text, omega arith, omega arith, r.follow, r.behind);
   turns_are = r.turns_are;
   marks_are = ap (λ m. mark ∷ m) r.marks_are;
+  items_are = ap (λ l. inr mark ∷ l) r.items_are;
 }
 
 onwards_none : (limits : Limits) (total made : ℕ) (mark : Mark) → made + total ≡ limits.turns → mark.writes ≤ made → mark.console ≤ made
@@ -137,6 +144,7 @@ onwards_none limits total made mark sum writes console = record {
   behind = (append-nil (mark_line mark), omega arith, omega arith, refl);
   turns_are = refl;
   marks_are = refl;
+  items_are = refl;
 }
 
 onwards_by : (limits : Limits) (total made : ℕ) (turns : List ℕ) (mark : Mark) (marks : List Mark) → 1 ≤ limits.block → made + total ≡ limits.turns → mark.writes ≤ made → mark.console ≤ made
@@ -166,6 +174,7 @@ blocks_to (mark ∷ marks) limits total made bytes turns are sum some fits are_t
 -- each body of version 2 is read, and tells of its turns and marks
 pub body2_to : (limits : Limits) (bytes turns : List ℕ) (marks : List Mark) → AreLimits limits → IsBody2 limits.cores limits.turns limits.block bytes turns marks
     → (decoded : List Item) × Completes limits (First (record { left = min limits.turns limits.block; behind = behind_of limits limits.turns })) bytes decoded × (turns_of decoded ≡ turns) × (marks_of decoded ≡ marks)
+    × (decoded ≡ blocks_items limits.block marks turns)
 body2_to limits bytes [] marks are is = absurd (is.some refl)
 body2_to limits bytes (turn ∷ turns) marks are is =
     let r : BlocksTo limits limits.turns bytes (turn ∷ turns) marks =
@@ -180,4 +189,5 @@ body2_to limits bytes (turn ∷ turns) marks are is =
       },
       r.turns_are,
       r.marks_are,
+      r.items_are,
     )

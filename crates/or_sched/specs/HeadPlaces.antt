@@ -1,6 +1,7 @@
 -- Places in the head of a recording, and what completes each of them.
 use Rattle.std.specs.Prelude.{◌≡◌, ℕ, ◌+◌, ◌≤◌, ◌<◌, ◌==◌, ◌^◌, List, [], ◌∷◌, ◌++◌, Option, Some, None, codes, decimal, take, drop, length, Bool, true, false, ◌⊎◌, if◌then◌else◌, slice_set, All}
 use Rattle.std.specs.Fmt.{digit_glyph}
+use Rattle.std.proofs.Props.{props}
 use Rattle.or_text.specs.Hexadecimal.{digest_text}
 use Rattle.or_sched.specs.declared.head.Known.{Known}
 use Rattle.or_sched.specs.declared.head.Literal.{Literal}
@@ -257,3 +258,46 @@ KnownSound known Behind = HasSettings known
 abbrev pub HeadStepSound : HeadStep → Type 0
 HeadStepSound Refused = Unit {0}
 HeadStepSound (Goes next known) = HeadSound next × KnownSound known next
+
+-- such facts have one proof
+IsNumberFrom-prop : (number : Option ℕ) (most : ℕ) → IsProp (IsNumberFrom number most)
+IsNumberFrom-prop None most = hlevel props
+IsNumberFrom-prop (Some n) most = hlevel props
+
+IsHigh-prop : (high : Option ℕ) (count : ℕ) → IsProp (IsHigh high count)
+IsHigh-prop None count = hlevel props
+IsHigh-prop (Some high) count = hlevel props
+
+pub HeadSound-prop : (place : HeadPlace) → IsProp (HeadSound place)
+HeadSound-prop (Text literal seen) = hlevel props
+HeadSound-prop Version = hlevel props
+HeadSound-prop (LineEnd line) = hlevel props
+HeadSound-prop (Number field number) = IsNumberFrom-prop number (field_most field)
+HeadSound-prop (Digits line count high) = hlevel (props, IsHigh-prop high count)
+HeadSound-prop Behind = hlevel props
+
+LiteralSound-prop : (known : Known) (literal : Literal) → IsProp (LiteralSound known literal)
+LiteralSound-prop known Orsched = hlevel props
+LiteralSound-prop known Cores = hlevel props
+LiteralSound-prop known Budget = hlevel props
+LiteralSound-prop known Ram = hlevel props
+LiteralSound-prop known Latched = hlevel props
+LiteralSound-prop known Image = hlevel props
+LiteralSound-prop known Input = hlevel props
+
+LineSound-prop : (known : Known) (line : TopLine) → IsProp (LineSound known line)
+LineSound-prop known First = hlevel props
+LineSound-prop known Second = hlevel props
+
+FieldSound-prop : (known : Known) (field : Field) → IsProp (FieldSound known field)
+FieldSound-prop known CoresField = hlevel props
+FieldSound-prop known BudgetField = hlevel props
+FieldSound-prop known RamField = hlevel props
+
+pub KnownSound-prop : (known : Known) (place : HeadPlace) → IsProp (KnownSound known place)
+KnownSound-prop known (Text literal seen) = LiteralSound-prop known literal
+KnownSound-prop known Version = hlevel props
+KnownSound-prop known (LineEnd line) = LineSound-prop known line
+KnownSound-prop known (Number field number) = FieldSound-prop known field
+KnownSound-prop known (Digits line count high) = hlevel props
+KnownSound-prop known Behind = hlevel props

@@ -9,3 +9,5 @@ pub mod Places
 pub mod Ended
 pub mod Body
 pub mod HeadPlaces
+pub mod Recording
+pub mod Reading

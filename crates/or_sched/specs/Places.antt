@@ -1,6 +1,7 @@
 -- What completion each place in the text of a recording behind its head, and what a byte makes of a place.
-use Rattle.std.specs.Prelude.{◌≡◌, ◌≢◌, ℕ, zero, suc, ◌+◌, ◌-◌, ◌*◌, ◌≤◌, ◌<◌, ◌^◌, List, [], ◌∷◌, ◌++◌, Option, Some, None, min, codes, decimal, take, ◌⊎◌}
+use Rattle.std.specs.Prelude.{◌≡◌, ◌≢◌, ℕ, zero, suc, ◌+◌, ◌-◌, ◌*◌, ◌≤◌, ◌<◌, ◌^◌, List, [], ◌∷◌, ◌++◌, Option, Some, None, min, codes, decimal, take, ◌⊎◌, Bool, true, false}
 use Rattle.std.proofs.Common.{inl, inr}
+use Rattle.std.proofs.Props.{props}
 use Rattle.or_sched.specs.declared.recording.Mark.{Mark}
 use Rattle.or_sched.specs.declared.places.Limits.{Limits}
 use Rattle.or_sched.specs.declared.places.Block.{Block}
@@ -142,3 +143,30 @@ DigitIs number byte most (Some next) = DigitTo number byte most next
 abbrev pub WithinIs : ℕ → ℕ → Option ℕ → Type 0
 WithinIs n most None = most < n
 WithinIs n most (Some next) = (next ≡ n) × (n ≤ most)
+
+-- nothing need follow the place
+abbrev pub ends_at : Place → Bool
+ends_at (First block) = false
+ends_at (Run begun) = false
+ends_at (Line core block) = true
+ends_at (Word seen total) = false
+ends_at (Writes number total) = false
+ends_at (Console writes number total) = false
+ends_at Done = true
+
+-- such facts have one proof
+pub IsNumberBelow-prop : (number : Option ℕ) (most : ℕ) → IsProp (IsNumberBelow number most)
+IsNumberBelow-prop None most = hlevel props
+IsNumberBelow-prop (Some n) most = hlevel props
+
+pub IsSound-prop : (limits : Limits) (place : Place) → IsProp (IsSound limits place)
+IsSound-prop limits (First block) = hlevel (props, IsNumberBelow-prop block.behind limits.turns)
+IsSound-prop limits (Run begun) = hlevel (props, IsNumberBelow-prop begun.block.behind limits.turns)
+IsSound-prop limits (Line core block) = hlevel (props, IsNumberBelow-prop block.behind limits.turns)
+IsSound-prop limits (Word seen total) = hlevel props
+IsSound-prop limits (Writes number total) = hlevel (props, IsNumberBelow-prop number (limits.turns - total))
+IsSound-prop limits (Console writes number total) = hlevel (props, IsNumberBelow-prop number (limits.turns - total))
+IsSound-prop limits Done = hlevel props
+
+pub AreLimits-prop : (limits : Limits) → IsProp (AreLimits limits)
+AreLimits-prop limits = hlevel props

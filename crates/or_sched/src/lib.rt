@@ -4,11 +4,14 @@
 mod head;
 pub mod laws;
 mod places;
+mod reader;
 mod recording;
+mod state;
 mod step;
 #[cfg(test)]
 mod tests;
 mod writer;
 
-pub use recording::{Head, Mark};
+pub use reader::Reader;
+pub use recording::{Head, Mark, RecFault};
 pub use writer::write;

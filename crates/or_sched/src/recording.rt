@@ -17,3 +17,16 @@ pub struct Mark {
     /// How many bytes the console had.
     pub console: u64,
 }
+
+/// Why a text is no recording, or wasn't read on.
+#[derive(Clone, Copy, Debug, PartialEq, Eq)]
+pub enum RecFault {
+    /// The first byte after which no recording goes on stands in this line, from 1 to 4.
+    BadHead { line: u32 },
+    /// It stands behind the fourth line, at this place of the text, counted from 0.
+    BadRun { at: u64 },
+    /// The text is the beginning of a recording, and no recording yet.
+    Short,
+    /// Memory ran out.
+    NoMemory,
+}

@@ -35,24 +35,33 @@ pub returns-then-byte-eq10-clause-step : goal.returns-then-byte-eq10-clause-step
 returns-then-byte-eq10-clause-step c =
     let high : c.args.n ≤ 256 = subst (λ f. c.args.n ≤ field_most f) c.in-Ram.is c.requires.high in
     let next : Known = record c.args.known { ram = c.args.n; latched = false } in
-    λ are. (subst (λ b. HeadStepKeeps c.args.known (Number c.args.field (Some c.args.n)) b next (Text Image 0)) (sym c.if-byte-eq10.true)
-    (subst (λ f. HeadStepKeeps c.args.known (Number f (Some c.args.n)) 10 next (Text Image 0)) (sym c.in-Ram.is) (ram_feed c.args.known c.args.n c.requires.low high)), are)
+    λ are. (
+      subst (λ b. HeadStepKeeps c.args.known (Number c.args.field (Some c.args.n)) b next (Text Image 0)) (sym c.if-byte-eq10.true)
+          (subst (λ f. HeadStepKeeps c.args.known (Number f (Some c.args.n)) 10 next (Text Image 0)) (sym c.in-Ram.is) (ram_feed c.args.known c.args.n c.requires.low high)),
+      are,
+    )
 
 pub returns-else-byte-ne32-clause-step : goal.returns-else-byte-ne32-clause-step
 returns-else-byte-ne32-clause-step c =
     let high : c.args.n ≤ 8 = subst (λ f. c.args.n ≤ field_most f) c.in-Cores.is c.requires.high in
     let blank : c.args.byte ≡ 32 = omega arith in
     let next : Known = record c.args.known { cores = c.args.n } in
-    λ are. (subst (λ b. HeadStepKeeps c.args.known (Number c.args.field (Some c.args.n)) b next (Text Budget 0)) (sym blank)
-    (subst (λ f. HeadStepKeeps c.args.known (Number f (Some c.args.n)) 32 next (Text Budget 0)) (sym c.in-Cores.is) (cores_end c.args.known c.args.n c.requires.low high)), are)
+    λ are. (
+      subst (λ b. HeadStepKeeps c.args.known (Number c.args.field (Some c.args.n)) b next (Text Budget 0)) (sym blank)
+          (subst (λ f. HeadStepKeeps c.args.known (Number f (Some c.args.n)) 32 next (Text Budget 0)) (sym c.in-Cores.is) (cores_end c.args.known c.args.n c.requires.low high)),
+      are,
+    )
 
 pub returns-else-byte-ne32-2-clause-step : goal.returns-else-byte-ne32-2-clause-step
 returns-else-byte-ne32-2-clause-step c =
     let high : c.args.n ≤ 67108864 = subst (λ f. c.args.n ≤ field_most f) c.in-Budget.is c.requires.high in
     let blank : c.args.byte ≡ 32 = omega arith in
     let next : Known = record c.args.known { budget = c.args.n } in
-    λ are. (subst (λ b. HeadStepKeeps c.args.known (Number c.args.field (Some c.args.n)) b next (Text Ram 0)) (sym blank)
-    (subst (λ f. HeadStepKeeps c.args.known (Number f (Some c.args.n)) 32 next (Text Ram 0)) (sym c.in-Budget.is) (budget_end c.args.known c.args.n c.requires.low high)), are)
+    λ are. (
+      subst (λ b. HeadStepKeeps c.args.known (Number c.args.field (Some c.args.n)) b next (Text Ram 0)) (sym blank)
+          (subst (λ f. HeadStepKeeps c.args.known (Number f (Some c.args.n)) 32 next (Text Ram 0)) (sym c.in-Budget.is) (budget_end c.args.known c.args.n c.requires.low high)),
+      are,
+    )
 
 pub returns-else-known-ne2-clause-step : goal.returns-else-known-ne2-clause-step
 returns-else-known-ne2-clause-step c =
@@ -60,5 +69,8 @@ returns-else-known-ne2-clause-step c =
     let blank : c.args.byte ≡ 32 = omega arith in
     let two : c.args.known.version ≡ 2 = omega arith in
     let next : Known = record c.args.known { ram = c.args.n; latched = true } in
-    λ are. (subst (λ b. HeadStepKeeps c.args.known (Number c.args.field (Some c.args.n)) b next (Text Latched 0)) (sym blank)
-    (subst (λ f. HeadStepKeeps c.args.known (Number f (Some c.args.n)) 32 next (Text Latched 0)) (sym c.in-Ram.is) (ram_latched c.args.known c.args.n c.requires.low high two)), are)
+    λ are. (
+      subst (λ b. HeadStepKeeps c.args.known (Number c.args.field (Some c.args.n)) b next (Text Latched 0)) (sym blank)
+          (subst (λ f. HeadStepKeeps c.args.known (Number f (Some c.args.n)) 32 next (Text Latched 0)) (sym c.in-Ram.is) (ram_latched c.args.known c.args.n c.requires.low high two)),
+      are,
+    )
