@@ -8,7 +8,7 @@ use Rattle.or_sched.specs.declared.places.Limits.{Limits}
 use Rattle.or_sched.specs.declared.places.Block.{Block}
 use Rattle.or_sched.specs.declared.recording.Mark.{Mark}
 use Rattle.or_sched.specs.declared.places.Place.TheVariants.{First}
-use Rattle.or_sched.specs.Runs.{runs, runs_after, block_text, lines_text}
+use Rattle.or_sched.specs.Runs.{expand, runs, runs_after, block_text, lines_text}
 use Rattle.or_sched.specs.RunRests.{Follow, left_after, AtRun, Opens}
 use Rattle.or_sched.specs.Blocks.{Item, run_item, mark_line}
 use Rattle.or_sched.specs.BlockRests.{Later, items, later_items, Behind, behind_of}
@@ -19,7 +19,7 @@ use Rattle.or_sched.specs.Schedule.{AreMarksAfter}
 use Rattle.or_sched.specs.Blocks.{turns_of, marks_of}
 use Rattle.or_sched.proofs.Steps.{opened, letter_back}
 use Rattle.or_sched.proofs.PlaceLemmas.{is_nothing_behind, nothing_behind, behind_whole, behind_part}
-use Rattle.or_sched.proofs.Bridge.{AreTurns, expand, AreRuns, runs_are, runs_of_expand, block_of_runs, expand_turns, expand_length}
+use Rattle.or_sched.proofs.Bridge.{AreTurns, AreRuns, runs_are, runs_of_expand, block_of_runs, expand_turns, expand_length}
 use Rattle.or_sched.proofs.BodyLemmas.{turns_of_runs, are_turns, by_recursion}
 
 -- the runs of a block's turns

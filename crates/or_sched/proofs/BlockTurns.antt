@@ -7,7 +7,7 @@ use Rattle.std.proofs.lemmas.List.Elements.{All-from_recursion}
 use Rattle.or_sched.specs.declared.places.Limits.{Limits}
 use Rattle.or_sched.specs.declared.recording.Mark.{Mark}
 use Rattle.or_sched.specs.declared.places.Place.TheVariants.{First}
-use Rattle.or_sched.specs.Runs.{block_text, lines_text}
+use Rattle.or_sched.specs.Runs.{expand, block_text, lines_text}
 use Rattle.or_sched.specs.RunRests.{Follow, left_after, AtRun}
 use Rattle.or_sched.specs.Blocks.{Item, run_item, mark_line}
 use Rattle.or_sched.specs.BlockRests.{Later, items, later_items, Behind, behind_of}
@@ -18,7 +18,7 @@ use Rattle.or_sched.specs.Schedule.{AreMarksAfter}
 use Rattle.or_sched.specs.Blocks.{turns_of, marks_of}
 use Rattle.or_sched.proofs.Steps.{letter_back}
 use Rattle.or_sched.proofs.PlaceLemmas.{behind_whole, behind_part}
-use Rattle.or_sched.proofs.Bridge.{AreTurns, expand, block_of_runs, expand_turns, expand_length}
+use Rattle.or_sched.proofs.Bridge.{AreTurns, block_of_runs, expand_turns, expand_length}
 use Rattle.or_sched.proofs.BodyLemmas.{turns_of_runs, by_recursion}
 use Rattle.or_sched.proofs.BlockTexts.{marks_of_runs}
 

@@ -7,7 +7,7 @@ use Rattle.std.proofs.lemmas.List.Elements.{recursion_from_All, All-from_recursi
 use Rattle.or_sched.specs.declared.places.Limits.{Limits}
 use Rattle.or_sched.specs.declared.places.Block.{Block}
 use Rattle.or_sched.specs.declared.places.Place.TheVariants.{First}
-use Rattle.or_sched.specs.Runs.{runs, runs_after, block_text, lines_text}
+use Rattle.or_sched.specs.Runs.{expand, runs, runs_after, block_text, lines_text}
 use Rattle.or_sched.specs.RunRests.{Follow, left_after, AtRun, Opens}
 use Rattle.or_sched.specs.Blocks.{Item, run_item}
 use Rattle.or_sched.specs.BlockRests.{Later, items, later_items, Behind}
@@ -15,7 +15,7 @@ use Rattle.or_sched.specs.Places.{Completes, Decoded}
 use Rattle.or_sched.specs.Body.{IsBody1}
 use Rattle.or_sched.specs.Blocks.{turns_of}
 use Rattle.or_sched.proofs.Steps.{opened, letter_back}
-use Rattle.or_sched.proofs.Bridge.{AreTurns, expand, AreRuns, runs_are, runs_of_expand, block_of_runs, expand_turns, expand_length}
+use Rattle.or_sched.proofs.Bridge.{AreTurns, AreRuns, runs_are, runs_of_expand, block_of_runs, expand_turns, expand_length}
 
 pub turns_of_runs : (all : List (ℕ × ℕ)) (decoded : List Item) → turns_of (map run_item all ++ decoded) ≡ expand all ++ turns_of decoded
 turns_of_runs [] decoded = refl

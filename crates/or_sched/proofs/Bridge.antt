@@ -4,17 +4,13 @@ use Rattle.std.specs.Prelude.{replicate, All, map}
 use Rattle.std.proofs.lemmas.Bool.{cases_eq}
 use Rattle.std.proofs.lemmas.Bool.Decides.{nat_tests}
 use Rattle.std.proofs.lemmas.List.{length-replicate}
-use Rattle.or_sched.specs.Runs.{runs, runs_after, block_text, lines_text}
+use Rattle.or_sched.specs.Runs.{runs, runs_after, expand, block_text, lines_text}
 use Rattle.or_sched.specs.RunRests.{Follow, left_after}
 
 -- each turn is of a core
 abbrev pub AreTurns : ℕ → List ℕ → Type 0
 AreTurns cores [] = Unit {0}
 AreTurns cores (turn ∷ turns) = (turn < cores) × AreTurns cores turns
-
-abbrev pub expand : List (ℕ × ℕ) → List ℕ
-expand [] = []
-expand (run ∷ others) = replicate run.1 run.0 ++ expand others
 
 runs_same : (core count turn : ℕ) (turns : List ℕ) → turn ≡ core → runs_after core count (turn ∷ turns) ≡ runs_after core (count + 1) turns
 runs_same core count turn turns same = grind (arith, nat_tests)

@@ -15,7 +15,7 @@ use Rattle.or_sched.specs.Blocks.{Item, mark_line}
 use Rattle.or_sched.specs.BlockRests.{Later, items, Behind}
 use Rattle.or_sched.specs.Places.{Completes, IsSound, AreLimits, digits_text, InNumber}
 use Rattle.or_sched.proofs.PlaceLemmas.{nothing_behind}
-use Rattle.or_sched.specs.Ended.{run_length, room_after, mark_length, ended_in, Passed, PlaceAt, StepPlaces, Ended}
+use Rattle.or_sched.specs.Ended.{run_length, room_after, mark_length, ended_in, Passed, PlaceAt, StepPlaces, EndedItems}
 
 run_ended : (room n : ℕ) (run : ℕ × ℕ) (others : List Item) → run_length room run < n
     → ended_in room n (inl run ∷ others) ≡ inl run ∷ ended_in (room_after room) (n - run_length room run) others
@@ -132,7 +132,7 @@ counts_mark place next mark step room n at =
 -- these have ended, and no others
 pub are_ended : (limits : Limits) (IsText : List ℕ → List Item → Type 0) (bytes : List ℕ) (ended : List Item) (place : Place) (room n : ℕ) → IsSound limits place
     → ((rest : List ℕ) (decoded : List Item) → IsText (bytes ++ rest) decoded → (others : List Item) × (decoded ≡ ended ++ others) × Completes limits place rest others)
-    → Passed 16 (length bytes) ended room n → PlaceAt place room n → Ended IsText bytes ended
+    → Passed 16 (length bytes) ended room n → PlaceAt place room n → EndedItems IsText bytes ended
 are_ended limits IsText bytes ended place room n sound keeps passed at = λ rest decoded text.
     let k : (others : List Item) × (decoded ≡ ended ++ others) × Completes limits place rest others = keeps rest decoded text in
     ap (ended_in 16 (length bytes)) k.1 ∙ passed_ended ended k.0 16 (length bytes) room n passed

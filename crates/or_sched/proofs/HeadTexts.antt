@@ -9,6 +9,7 @@ use Rattle.or_sched.specs.declared.head.Literal.TheVariants.{Orsched, Cores, Bud
 use Rattle.or_sched.specs.declared.head.HeadPlace.TheVariants.{Text}
 use Rattle.or_sched.specs.Places.{InNumber}
 use Rattle.or_sched.specs.HeadPlaces.{InText, InField, InDigest, literal_bytes, AtRam, AtBudget, AtCores, AtFirst, AtSecond, AtVersion, AtImage, AtInput, AtBehind, HeadCompletes, AreDigests}
+use Rattle.or_sched.specs.HeadLines.{input_text, image_text, ram_text, budget_text, cores_text, known_text, KnownFits, IsHeadText}
 use Rattle.or_sched.proofs.Digests.{digest_from}
 
 -- a number with its end
@@ -21,38 +22,6 @@ field_of end value more rest e = record { tail = decimal value; digits = refl; t
 -- a text of which nothing has come
 text_of : (C : List ℕ → Type 0) (text rest more : List ℕ) → rest ≡ text ++ more → C more → InText C text 0 rest
 text_of C text rest more e c = record { more = more; whole = e; follows = c }
-
--- the lines, each from what may change on
-abbrev pub input_text : Known → List ℕ → List ℕ
-input_text final end = codes "input " ++ (digest_text final.input ++ 10 ∷ end)
-
-abbrev pub image_text : Known → List ℕ → List ℕ
-image_text final end = codes "image " ++ (digest_text final.image ++ 10 ∷ input_text final end)
-
-abbrev pub ram_text : Bool → Known → List ℕ → List ℕ
-ram_text latched final end = decimal final.ram ++ (form_text latched ++ 10 ∷ image_text final end)
-
-abbrev pub budget_text : Known → List ℕ → List ℕ
-budget_text final end = decimal final.budget ++ (codes " ram " ++ ram_text final.latched final end)
-
-abbrev pub cores_text : Known → List ℕ → List ℕ
-cores_text final end = decimal final.cores ++ (codes " budget " ++ budget_text final end)
-
-abbrev pub known_text : Known → List ℕ → List ℕ
-known_text final end = codes "orsched " ++ (decimal final.version ++ 10 ∷ (codes "cores " ++ cores_text final end))
-
--- settings and digests that fit, and that the version can say
-pub record KnownFits (known : Known) : Type 0 where
-  pub version : (known.version ≡ 1) ⊎ (known.version ≡ 2)
-  pub cores : (1 ≤ known.cores) × (known.cores ≤ 8)
-  pub budget : (1 ≤ known.budget) × (known.budget ≤ 67108864)
-  pub ram : (1 ≤ known.ram) × (known.ram ≤ 256)
-  pub latched : known.latched ≡ true → known.version ≡ 2
-  pub digests : AreDigests known
-
-pub record IsHeadText (final : Known) (end rest : List ℕ) : Type 0 where
-  pub text : rest ≡ known_text final end
-  pub fits : KnownFits final
 
 record ImageSays (final known : Known) (end rest : List ℕ) : Type 0 where
   text : rest ≡ digest_text final.image ++ 10 ∷ input_text final end

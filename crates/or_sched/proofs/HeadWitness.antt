@@ -1,4 +1,4 @@
--- Each place of the first two lines is completed by some text.
+-- Each place of the head is completed by some text, whatever stands behind the head.
 use Rattle.std.proofs.Common.{◌≡◌, ◌∙◌, sym, ap, ℕ, zero, suc, List, ◌++◌, ◌∷◌, [], ◌+◌, ◌≤◌, ◌<◌, append_assoc, append-nil, arith, refl, length, inl, inr, decimal, Option, Some, None, take, drop, false}
 use Rattle.std.proofs.lemmas.List.{take-append-drop}
 use Rattle.or_sched.specs.declared.head.Known.{Known}
@@ -18,10 +18,9 @@ use Rattle.or_sched.specs.Places.{InNumber}
 use Rattle.or_sched.specs.HeadPlaces.{InText, InField, InDigest, literal_bytes, AtRam, AtBudget, AtCores, AtFirst, AtSecond, AtVersion, AtImage, AtInput, AtBehind, FollowsLiteral, HeadCompletes, HeadSound, IsNumberFrom, AreDigests, digits_so_far}
 
 pub record Completed (P : Known → List ℕ → List ℕ → Type 0) : Type 0 where
-  final : Known
-  end : List ℕ
-  rest : List ℕ
-  holds : P final end rest
+  pub final : Known
+  pub rest : List ℕ → List ℕ
+  pub holds : (end : List ℕ) → P final end (rest end)
 
 abbrev one_of : Option ℕ → ℕ
 one_of None = 1
@@ -50,9 +49,8 @@ some_input known front hex short =
     let f : Filled front = filled front hex short in
     record {
       final = record known { input = f.bytes };
-      end = [];
-      rest = f.tail ++ 10 ∷ [];
-      holds = record { bytes = f.bytes; tail = f.tail; more = []; is = f.is; digits = f.digits; text = refl; follows = (refl, refl) };
+      rest = λ end. f.tail ++ 10 ∷ end;
+      holds = λ end. record { bytes = f.bytes; tail = f.tail; more = end; is = f.is; digits = f.digits; text = refl; follows = (refl, refl) };
     }
 
 some_image : (known : Known) (front : List ℕ) → AreHex front → length front ≤ 64 → Completed (λ final end rest. AtImage final end known front rest)
@@ -62,16 +60,15 @@ some_image known front hex short =
     let s : Completed (λ final end rest. AtInput final end next [] rest) = some_input next [] tt (omega arith) in
     record {
       final = s.final;
-      end = s.end;
-      rest = f.tail ++ 10 ∷ (literal_bytes Input ++ s.rest);
-      holds = record {
+      rest = λ end. f.tail ++ 10 ∷ (literal_bytes Input ++ s.rest end);
+      holds = λ end. record {
         bytes = f.bytes;
         tail = f.tail;
-        more = literal_bytes Input ++ s.rest;
+        more = literal_bytes Input ++ s.rest end;
         is = f.is;
         digits = f.digits;
         text = refl;
-        follows = text_some (AtInput s.final s.end next []) (literal_bytes Input) 0 s.rest s.holds;
+        follows = text_some (AtInput s.final end next []) (literal_bytes Input) 0 (s.rest end) (s.holds end);
       };
     }
 
@@ -80,9 +77,8 @@ some_second known =
     let s : Completed (λ final end rest. AtImage final end known [] rest) = some_image known [] tt (omega arith) in
     record {
       final = s.final;
-      end = s.end;
-      rest = 10 ∷ (literal_bytes Image ++ s.rest);
-      holds = (literal_bytes Image ++ s.rest, refl, text_some (AtImage s.final s.end known []) (literal_bytes Image) 0 s.rest s.holds);
+      rest = λ end. 10 ∷ (literal_bytes Image ++ s.rest end);
+      holds = λ end. (literal_bytes Image ++ s.rest end, refl, text_some (AtImage s.final end known []) (literal_bytes Image) 0 (s.rest end) (s.holds end));
     }
 
 some_ram : (known : Known) (number : Option ℕ) → IsNumberFrom number 256 → Completed (λ final end rest. AtRam final end known number rest)
@@ -91,9 +87,8 @@ some_ram known number from =
     let s : Completed (λ final end rest. AtImage final end next [] rest) = some_image next [] tt (omega arith) in
     record {
       final = s.final;
-      end = s.end;
-      rest = left_of number ++ 10 ∷ (literal_bytes Image ++ s.rest);
-      holds = inl (field_some number 10 256 _ (literal_bytes Image ++ s.rest) (omega arith) from (text_some (AtImage s.final s.end next []) (literal_bytes Image) 0 s.rest s.holds));
+      rest = λ end. left_of number ++ 10 ∷ (literal_bytes Image ++ s.rest end);
+      holds = λ end. inl (field_some number 10 256 _ (literal_bytes Image ++ s.rest end) (omega arith) from (text_some (AtImage s.final end next []) (literal_bytes Image) 0 (s.rest end) (s.holds end)));
     }
 
 some_budget : (known : Known) (number : Option ℕ) → IsNumberFrom number 67108864 → Completed (λ final end rest. AtBudget final end known number rest)
@@ -102,9 +97,8 @@ some_budget known number from =
     let s : Completed (λ final end rest. AtRam final end next None rest) = some_ram next None tt in
     record {
       final = s.final;
-      end = s.end;
-      rest = left_of number ++ 32 ∷ (literal_bytes Ram ++ s.rest);
-      holds = field_some number 32 67108864 _ (literal_bytes Ram ++ s.rest) (omega arith) from (text_some (AtRam s.final s.end next None) (literal_bytes Ram) 0 s.rest s.holds);
+      rest = λ end. left_of number ++ 32 ∷ (literal_bytes Ram ++ s.rest end);
+      holds = λ end. field_some number 32 67108864 _ (literal_bytes Ram ++ s.rest end) (omega arith) from (text_some (AtRam s.final end next None) (literal_bytes Ram) 0 (s.rest end) (s.holds end));
     }
 
 some_cores : (known : Known) (number : Option ℕ) → IsNumberFrom number 8 → Completed (λ final end rest. AtCores final end known number rest)
@@ -113,9 +107,8 @@ some_cores known number from =
     let s : Completed (λ final end rest. AtBudget final end next None rest) = some_budget next None tt in
     record {
       final = s.final;
-      end = s.end;
-      rest = left_of number ++ 32 ∷ (literal_bytes Budget ++ s.rest);
-      holds = field_some number 32 8 _ (literal_bytes Budget ++ s.rest) (omega arith) from (text_some (AtBudget s.final s.end next None) (literal_bytes Budget) 0 s.rest s.holds);
+      rest = λ end. left_of number ++ 32 ∷ (literal_bytes Budget ++ s.rest end);
+      holds = λ end. field_some number 32 8 _ (literal_bytes Budget ++ s.rest end) (omega arith) from (text_some (AtBudget s.final end next None) (literal_bytes Budget) 0 (s.rest end) (s.holds end));
     }
 
 some_first : (known : Known) → Completed (λ final end rest. AtFirst final end known rest)
@@ -123,15 +116,14 @@ some_first known =
     let s : Completed (λ final end rest. AtCores final end known None rest) = some_cores known None tt in
     record {
       final = s.final;
-      end = s.end;
-      rest = 10 ∷ (literal_bytes Cores ++ s.rest);
-      holds = (literal_bytes Cores ++ s.rest, refl, text_some (AtCores s.final s.end known None) (literal_bytes Cores) 0 s.rest s.holds);
+      rest = λ end. 10 ∷ (literal_bytes Cores ++ s.rest end);
+      holds = λ end. (literal_bytes Cores ++ s.rest end, refl, text_some (AtCores s.final end known None) (literal_bytes Cores) 0 (s.rest end) (s.holds end));
     }
 
 some_version : (known : Known) → Completed (λ final end rest. AtVersion final end known rest)
 some_version known =
     let s : Completed (λ final end rest. AtFirst final end (record known { version = 1 }) rest) = some_first (record known { version = 1 }) in
-    record { final = s.final; end = s.end; rest = 49 ∷ s.rest; holds = (1, s.rest, refl, inl refl, s.holds) }
+    record { final = s.final; rest = λ end. 49 ∷ s.rest end; holds = λ end. (1, s.rest end, refl, inl refl, (s.holds end)) }
 
 some_line : (line : TopLine) (known : Known) → Completed (λ final end rest. HeadCompletes final end known (LineEnd line) rest)
 some_line First known = some_first known
@@ -161,9 +153,9 @@ some_number RamField known number sound = some_ram known number sound
 pub head_completes : (known : Known) (place : HeadPlace) → AreDigests known → HeadSound place → Completed (λ final end rest. HeadCompletes final end known place rest)
 head_completes known (Text word seen) are sound =
     let s : Completed (λ final end rest. FollowsLiteral final end word known rest) = some_word word known in
-    record { final = s.final; end = s.end; rest = drop seen (literal_bytes word) ++ s.rest; holds = text_some (FollowsLiteral s.final s.end word known) (literal_bytes word) seen s.rest s.holds }
+    record { final = s.final; rest = λ end. drop seen (literal_bytes word) ++ s.rest end; holds = λ end. text_some (FollowsLiteral s.final end word known) (literal_bytes word) seen (s.rest end) (s.holds end) }
 head_completes known Version are sound = some_version known
 head_completes known (Number field number) are sound = some_number field known number sound
 head_completes known (LineEnd line) are sound = some_line line known
 head_completes known (Digits line count high) are sound = some_digits line known count high are sound
-head_completes known Behind are sound = record { final = known; end = []; rest = []; holds = (refl, refl) }
+head_completes known Behind are sound = record { final = known; rest = λ end. end; holds = λ end. (refl, refl) }

@@ -19,3 +19,4 @@ pub mod HeadLemmas
 pub mod HeadSteps
 pub mod HeadTexts
 pub mod HeadWitness
+pub mod Wholes

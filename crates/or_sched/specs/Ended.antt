@@ -35,8 +35,8 @@ ended_in room n (inr mark ∷ others) =
     if nat_le (mark_length mark) n then inr mark ∷ ended_in 16 (n - mark_length mark) others else []
 
 -- the bytes of the text behind the head in which these have ended, however it goes on
-abbrev pub Ended : (List ℕ → List Item → Type 0) → List ℕ → List Item → Type 0
-Ended IsText bytes ended = (rest : List ℕ) (decoded : List Item) → IsText (bytes ++ rest) decoded → ended_in 16 (length bytes) decoded ≡ ended
+abbrev pub EndedItems : (List ℕ → List Item → Type 0) → List ℕ → List Item → Type 0
+EndedItems IsText bytes ended = (rest : List ℕ) (decoded : List Item) → IsText (bytes ++ rest) decoded → ended_in 16 (length bytes) decoded ≡ ended
 
 -- the front of these items has ended within n bytes, and so many bytes are left behind it
 abbrev pub Passed : ℕ → ℕ → List Item → ℕ → ℕ → Type 0

@@ -9,5 +9,6 @@ pub mod Places
 pub mod Ended
 pub mod Body
 pub mod HeadPlaces
+pub mod HeadLines
 pub mod Recording
 pub mod Reading
