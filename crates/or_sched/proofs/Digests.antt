@@ -74,7 +74,7 @@ bytes_take bytes zero are = tt
 bytes_take [] (suc n) are = tt
 bytes_take (b ∷ bytes) (suc n) are = (are.0, bytes_take bytes n are.1)
 
-digest_length : (bytes : List ℕ) → length (digest_text bytes) ≡ 2 * length bytes
+pub digest_length : (bytes : List ℕ) → length (digest_text bytes) ≡ 2 * length bytes
 digest_length [] = refl
 digest_length (b ∷ bytes) = omega (arith, digest_length bytes)
 

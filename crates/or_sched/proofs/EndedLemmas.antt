@@ -21,14 +21,14 @@ run_ended : (room n : ℕ) (run : ℕ × ℕ) (others : List Item) → run_lengt
     → ended_in room n (inl run ∷ others) ≡ inl run ∷ ended_in (room_after room) (n - run_length room run) others
 run_ended room n run others ends = grind (arith, nat_tests)
 
-run_open : (room n : ℕ) (run : ℕ × ℕ) (others : List Item) → n ≤ run_length room run → ended_in room n (inl run ∷ others) ≡ []
+pub run_open : (room n : ℕ) (run : ℕ × ℕ) (others : List Item) → n ≤ run_length room run → ended_in room n (inl run ∷ others) ≡ []
 run_open room n run others short = grind (arith, nat_tests)
 
 mark_ended : (room n : ℕ) (mark : Mark) (others : List Item) → mark_length mark ≤ n
     → ended_in room n (inr mark ∷ others) ≡ inr mark ∷ ended_in 16 (n - mark_length mark) others
 mark_ended room n mark others ends = grind (arith, nat_tests)
 
-mark_open : (room n : ℕ) (mark : Mark) (others : List Item) → n < mark_length mark → ended_in room n (inr mark ∷ others) ≡ []
+pub mark_open : (room n : ℕ) (mark : Mark) (others : List Item) → n < mark_length mark → ended_in room n (inr mark ∷ others) ≡ []
 mark_open room n mark others short = grind (arith, nat_tests)
 
 -- those that have passed are the front of those that have ended

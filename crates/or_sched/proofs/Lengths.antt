@@ -15,7 +15,7 @@ use Rattle.or_sched.proofs.Steps.{letter_back, count_many}
 use Rattle.or_sched.proofs.EndedLemmas.{mark_long}
 use Rattle.or_sched.proofs.PlaceLemmas.{behind_whole, behind_part}
 
-decimal_length : (n : ℕ) → n < 2 ^ 32 → length (decimal n) ≤ 20
+pub decimal_length : (n : ℕ) → n < 2 ^ 32 → length (decimal n) ≤ 20
 decimal_length n small = length-decimal-le 20 n (omega arith) (omega arith) (omega arith)
 
 count_length : (n : ℕ) → n < 2 ^ 32 → length (count_text n) ≤ 20

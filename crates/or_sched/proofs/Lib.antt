@@ -20,3 +20,5 @@ pub mod HeadSteps
 pub mod HeadTexts
 pub mod HeadWitness
 pub mod Wholes
+pub mod HeadReading
+pub mod BodyReading

@@ -156,10 +156,10 @@ some_recording known bytes is = go is.fits.version
 not_empty : (turns : List ℕ) → 1 ≤ length turns → turns ≢ []
 not_empty turns some none = omega (arith, ap length none)
 
-first1 : (known : Known) → known.version ≡ 1 → first_of known ≡ First (record { left = known.cores * known.budget; behind = None })
+pub first1 : (known : Known) → known.version ≡ 1 → first_of known ≡ First (record { left = known.cores * known.budget; behind = None })
 first1 known one = ap (λ v. First (first_block_of v (known.cores * known.budget))) one
 
-first2 : (known : Known) → known.version ≡ 2
+pub first2 : (known : Known) → known.version ≡ 2
     → first_of known ≡ First (record { left = min (limits_of known).turns (limits_of known).block; behind = behind_of (limits_of known) (limits_of known).turns })
 first2 known two = ap (λ v. First (first_block_of v (known.cores * known.budget))) two
 
