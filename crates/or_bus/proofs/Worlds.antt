@@ -343,7 +343,7 @@ length-ompic_written statuses offset v =
     let before : List ℕ = acknowledged statuses (offset / 8) v in
     length-if (is_status_offset offset) statuses (generated before (offset / 8) v)
     (length-set_if (has v 0x40000000 && nat_lt (destination_core v) (length before)) before (destination_core v) (0x40000000 + offset / 8 * 0x10000 + v % 0x10000)
-      ∙ length-set_if (has v 0x80000000) statuses (offset / 8) 0)
+    ∙ length-set_if (has v 0x80000000) statuses (offset / 8) 0)
 
 represents-uart : (bus : BusState) (world : World) (state : UartState) (spare : ℕ) → Represents bus world → Represents (record bus { uart = state; spare = spare }) (record world { uart = state })
 unfolding stands
@@ -363,13 +363,13 @@ pub track-uart_read : (bus new : BusState) (world : World) (reg : ℕ) → new �
 track-uart_read bus new world reg is before =
     subst (λ b. Represents b (record world { uart = uart_after_read world.uart reg })) (sym is)
     (subst (λ u. Represents (record bus { uart = uart_after_read bus.uart reg }) (record world { uart = uart_after_read u reg })) before.uart
-      (represents-uart bus world (uart_after_read bus.uart reg) bus.spare before))
+    (represents-uart bus world (uart_after_read bus.uart reg) bus.spare before))
 
 pub track-uart_written : (bus new : BusState) (world : World) (reg v spare : ℕ) → new ≡ record bus { uart = uart_written bus.uart reg v; spare = spare } → Represents bus world → Represents new (record world { uart = uart_written world.uart reg v })
 track-uart_written bus new world reg v spare is before =
     subst (λ b. Represents b (record world { uart = uart_written world.uart reg v })) (sym is)
     (subst (λ u. Represents (record bus { uart = uart_written bus.uart reg v; spare = spare }) (record world { uart = uart_written u reg v })) before.uart
-      (represents-uart bus world (uart_written bus.uart reg v) spare before))
+    (represents-uart bus world (uart_written bus.uart reg v) spare before))
 
 represents-ompic : (bus : BusState) (world : World) (statuses : List ℕ) → length statuses ≡ bus.cores → Represents bus world → Represents (record bus { ompic = statuses }) (record world { ompic = statuses })
 unfolding stands
@@ -389,7 +389,7 @@ pub track-ompic_written : (bus new : BusState) (world : World) (offset v : ℕ) 
 track-ompic_written bus new world offset v sound is before =
     subst (λ b. Represents b (record world { ompic = ompic_written world.ompic offset v })) (sym is)
     (subst (λ s. Represents (record bus { ompic = ompic_written bus.ompic offset v }) (record world { ompic = ompic_written s offset v })) before.ompic
-      (represents-ompic bus world (ompic_written bus.ompic offset v) (length-ompic_written bus.ompic offset v ∙ sound.all_statuses) before))
+    (represents-ompic bus world (ompic_written bus.ompic offset v) (length-ompic_written bus.ompic offset v ∙ sound.all_statuses) before))
 
 pub sound-ompic_written : (cores : ℕ) (ram : List ℕ) (caches : List (List (Option Line))) (slots : List (Option ℕ)) (counts : List Counts) (statuses new : List ℕ) (offset v : ℕ) → AreSound cores ram caches slots counts statuses → new ≡ ompic_written statuses offset v → AreSound cores ram caches slots counts new
 sound-ompic_written cores ram caches slots counts statuses new offset v sound is = record {
@@ -454,11 +454,12 @@ unfolding holds
 told_by bus world c index None is known inside at =
     λ line base same. sym (is.lines c line known base) ∙ ap (λ i. is_line line (slice_index_or (cache_of bus.caches c) i None)) same ∙ ap (is_line line) at
 told_by bus world c index (Some line) is known inside at =
-    let kept : IsLineOf bus.ram index line = is.coherent c known index line inside at in
-    (kept.aligned,
+    let kept : IsLineOf bus.ram index line = is.coherent c known index line inside at in (
+      kept.aligned,
       kept.indexed,
       sym (is.lines c line.address known kept.aligned) ∙ ap (λ i. is_line line.address (slice_index_or (cache_of bus.caches c) i None)) kept.indexed ∙ ap (is_line line.address) at ∙ grind (arith, nat_tests),
-      kept.same ∙ ap (λ ram. slice_range ram line.address (line.address + 32)) is.ram)
+      kept.same ∙ ap (λ ram. slice_range ram line.address (line.address + 32)) is.ram,
+    )
 
 pub told : (bus : BusState) (world : World) (c index : ℕ) (here : Option (ℕ × List ℕ)) → Represents bus world → c < bus.cores → index < 128 → here ≡ address_and_bytes (line_at_index (cache_of bus.caches c) index) → IsLineTold world c index here
 told bus world c index here is known inside e = subst (IsLineTold world c index) (sym e) (told_by bus world c index (line_at_index (cache_of bus.caches c) index) is known inside refl)

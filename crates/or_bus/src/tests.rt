@@ -1,10 +1,10 @@
+ghost use Rattle.std.specs.Prelude.{◌≡◌, IfOk};
+
 use crate::{Access, AccessKind, Bus, BusError, Counts};
 use or_mem::Ram;
 use or_words::{Config, NoMemory, Width};
 use std::alloc::Global;
 use std::test::Fail;
-
-ghost use Rattle.std.specs.Prelude.{◌≡◌, IfOk};
 
 // A bus of two cores with 1 MiB of RAM and room for 200 bytes of console.
 fn two_cores(alloc: Global, input: Vec<u8>) -> Result<Bus, NoMemory>
@@ -57,13 +57,25 @@ fn a_store_ends_reservations_of_its_word(rt: HostRuntime) -> Result<(), Fail> {
     bus.store(0, 0x2000, Width::Word, 9, false)?;
     assert_eq!(rt; bus.lwa(0, 0x2000, true)?, 9);
     bus.store(1, 0x2000, Width::Word, 9, true)?;
-    assert_eq!(rt; bus.swa(0, 0x2000, 1, true, true)?, false, "the word was written, with the value that it had");
+    assert_eq!(rt;
+        bus.swa(0, 0x2000, 1, true, true)?,
+        false,
+        "the word was written, with the value that it had"
+    );
     assert_eq!(rt; bus.peek(0x2000), Some(9));
     assert_eq!(rt; bus.lwa(0, 0x2000, true)?, 9);
     bus.store(1, 0x2004, Width::Byte, 9, true)?;
-    assert_eq!(rt; bus.swa(0, 0x2000, 1, true, true)?, true, "another word was written");
+    assert_eq!(rt;
+        bus.swa(0, 0x2000, 1, true, true)?,
+        true,
+        "another word was written"
+    );
     assert_eq!(rt; bus.peek(0x2000), Some(1));
-    assert_eq!(rt; bus.swa(0, 0x2000, 2, true, true)?, false, "a reservation serves once");
+    assert_eq!(rt;
+        bus.swa(0, 0x2000, 2, true, true)?,
+        false,
+        "a reservation serves once"
+    );
     Ok(())
 }
 
@@ -71,11 +83,23 @@ fn a_store_ends_reservations_of_its_word(rt: HostRuntime) -> Result<(), Fail> {
 fn a_conditional_store_ends_every_reservation_of_its_core(rt: HostRuntime) -> Result<(), Fail> {
     let mut bus = two_cores(rt.alloc(), Vec::new(rt.alloc()))?;
     let _ = bus.lwa(0, 0x2000, false)?;
-    assert_eq!(rt; bus.swa(0, 0x2000, 1, false, false)?, false, "the link was cleared by an exception");
+    assert_eq!(rt;
+        bus.swa(0, 0x2000, 1, false, false)?,
+        false,
+        "the link was cleared by an exception"
+    );
     assert_eq!(rt; bus.swa(0, 0x2000, 1, false, true)?, false);
     let _ = bus.lwa(0, 0x2000, false)?;
-    assert_eq!(rt; bus.swa(0, 0x3000, 1, false, true)?, false, "another word is not reserved");
-    assert_eq!(rt; bus.swa(0, 0x2000, 1, false, true)?, false, "and the reservation has ended");
+    assert_eq!(rt;
+        bus.swa(0, 0x3000, 1, false, true)?,
+        false,
+        "another word is not reserved"
+    );
+    assert_eq!(rt;
+        bus.swa(0, 0x2000, 1, false, true)?,
+        false,
+        "and the reservation has ended"
+    );
     assert_eq!(rt; bus.writes(), 0);
     Ok(())
 }
@@ -103,8 +127,15 @@ fn refused_accesses_change_nothing(rt: HostRuntime) -> Result<(), Fail> {
     assert_eq!(rt; bus.load(0, 0x9000_0000, Width::Half, false), Err(BusError));
     assert_eq!(rt; bus.load(0, 0x9800_0000, Width::Byte, false), Err(BusError));
     assert!(rt; bus.fetch(0x9000_0000, false).is_err());
-    assert_eq!(rt; bus.lwa(0, 0x10_0000, true), Err(BusError), "the first word past RAM");
-    assert_eq!(rt; bus.store(0, 0x9000_0008, Width::Byte, 1, false), Err(BusError));
+    assert_eq!(rt;
+        bus.lwa(0, 0x10_0000, true),
+        Err(BusError),
+        "the first word past RAM"
+    );
+    assert_eq!(rt;
+        bus.store(0, 0x9000_0008, Width::Byte, 1, false),
+        Err(BusError)
+    );
     assert_eq!(rt; bus.swa(0, 0x9800_0000, 1, false, true), Err(BusError));
     assert_eq!(rt; (bus.reads(), bus.writes()), (0, 0));
     assert_eq!(rt; bus.counts(0), hits_and_misses(0, 0));
@@ -160,7 +191,11 @@ fn lines_are_told(rt: HostRuntime) -> Result<(), Fail> {
     assert_eq!(rt; bus.line(0, 127), Some((0x2fe0, bytes)));
     bus.store(0, 0x2fe4, Width::Byte, 9, true)?;
     bytes[4] = 9;
-    assert_eq!(rt; bus.line(0, 127), Some((0x2fe0, bytes)), "a cached store updates the line of its own core");
+    assert_eq!(rt;
+        bus.line(0, 127),
+        Some((0x2fe0, bytes)),
+        "a cached store updates the line of its own core"
+    );
     bus.drop_line(1, 0x2fe4);
     assert_eq!(rt; bus.line(0, 127), Some((0x2fe0, bytes)));
     bus.store(1, 0x2fff, Width::Byte, 9, false)?;
@@ -185,7 +220,11 @@ fn the_last_access_is_told(rt: HostRuntime) -> Result<(), Fail> {
     assert_eq!(rt; bus.swa(0, 0x2000, 1, false, true)?, false);
     assert_eq!(rt; bus.peek(0x2000), Some(0));
     assert_eq!(rt; bus.peek(0x2001), None);
-    assert_eq!(rt; bus.last(), stored, "none of these goes to RAM for its data");
+    assert_eq!(rt;
+        bus.last(),
+        stored,
+        "none of these goes to RAM for its data"
+    );
     bus.forget();
     assert_eq!(rt; bus.last(), None);
     let _ = bus.lwa(0, 0x2008, false)?;
