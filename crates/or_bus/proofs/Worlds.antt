@@ -49,128 +49,44 @@ each_set P xs d x e inside here there = each_core (λ c. P c (slice_index_or (sl
 line_of_base : (pa : ℕ) → line_of pa % 32 ≡ 0
 line_of_base pa = omega arith
 
--- A LOAD
+-- A BUS STAYS SOUND
 
-represents-hit : (bus : BusState) (world : World) (d pa : ℕ) → d < bus.cores → IsSound bus → holds (cache_of bus.caches d) (line_of pa) ≡ true → Represents bus world
-    → Represents (record bus { counts = slice_set bus.counts d (with_hit (counts_of bus.counts d)) }) (after_load world d pa true)
-unfolding after_load stands
-represents-hit bus world d pa known sound hit is = record {
-  ram = is.ram;
-  uart = is.uart;
-  ompic = is.ompic;
-  valid = record { marks = is.valid.marks; reached = is.valid.reached; ompic = is.valid.ompic };
-  writes = is.writes;
-  lines = λ c line h base. each_core (λ c. c < bus.cores → holds (cache_of bus.caches c) line ≡ held (load_of d (line_of pa) ∷ world.accesses) c line) d
-      (λ k. told-hit world.accesses d (line_of pa) (cache_of bus.caches d) hit (λ l b. is.lines d l k b) line base)
-      (λ c ne k. told-other_load world.accesses c d (line_of pa) (cache_of bus.caches c) ne (λ l b. is.lines c l k b) line base)
-      c h;
-  reserved = is.reserved;
-  counted = each_set (λ c counts. c < bus.cores → IsCount (load_of d (line_of pa) ∷ world.accesses) c counts) bus.counts d _ no_counts (omega (arith, sound.few, sound.all_counts))
-      (λ k. count-hit world.accesses d (line_of pa) _ (sym (is.lines d (line_of pa) k (line_of_base pa)) ∙ hit) (is.counted d k))
-      (λ c ne k. count-other world.accesses c d (line_of pa) _ ne (is.counted c k));
+sound-filled : (cores : ℕ) (ram : List ℕ) (caches : List (List (Option Line))) (slots : List (Option ℕ)) (counts : List Counts) (statuses : List ℕ) (d pa : ℕ) → AreSound cores ram caches slots counts statuses → d < cores → line_of pa + 32 ≤ length ram
+    → AreSound cores ram (slice_set caches d (line_filled (cache_of caches d) pa (line_bytes ram pa))) slots counts statuses
+sound-filled cores ram caches slots counts statuses d pa sound known inside = record {
+  few = sound.few;
+  all_caches = length-set caches d _ ∙ sound.all_caches;
+  all_slots = sound.all_slots;
+  all_counts = sound.all_counts;
+  all_statuses = sound.all_statuses;
+  all_lines = each_set (λ c lines. c < cores → length lines ≡ 128) caches d _ [] (omega (arith, sound.all_caches))
+      (λ k. length-filled (cache_of caches d) pa (line_bytes ram pa) ∙ sound.all_lines d k)
+      (λ c ne k. sound.all_lines c k);
+  coherent = each_set (λ c lines. c < cores → IsCoherent ram lines) caches d _ [] (omega (arith, sound.all_caches))
+      (λ k. coherent-filled ram (cache_of caches d) pa (sound.all_lines d k) (sound.coherent d k) inside)
+      (λ c ne k. sound.coherent c k);
 }
 
--- a cached load whose line is held
-pub track-hit : (bus new : BusState) (world : World) (d pa word : ℕ) → IsSound bus → d < bus.cores → held_word (cache_of bus.caches d) pa ≡ Some word
-    → new ≡ record bus { counts = slice_set bus.counts d (with_hit (counts_of bus.counts d)) } → Represents bus world → Represents new (after_load world d pa true)
-track-hit bus new world d pa word sound known found is before =
-    subst (λ bus. Represents bus (after_load world d pa true)) (sym is)
-    (represents-hit bus world d pa known sound (holds-held_word (cache_of bus.caches d) pa ∙ ap is_some found) before)
+pub sound-kept : (cores : ℕ) (ram : List ℕ) (caches new : List (List (Option Line))) (slots : List (Option ℕ)) (counts : List Counts) (statuses : List ℕ) (d pa : ℕ) → AreSound cores ram caches slots counts statuses → d < cores → line_of pa + 32 ≤ length ram
+    → new ≡ slice_set caches d (line_filled (cache_of caches d) pa (line_bytes ram pa)) → AreSound cores ram new slots counts statuses
+sound-kept cores ram caches new slots counts statuses d pa sound known inside is =
+    subst (λ caches. AreSound cores ram caches slots counts statuses) (sym is) (sound-filled cores ram caches slots counts statuses d pa sound known inside)
 
-represents-miss : (bus : BusState) (world : World) (d pa reads : ℕ) → d < bus.cores → IsSound bus → holds (cache_of bus.caches d) (line_of pa) ≡ false → Represents bus world
-    → Represents (record bus { reads = reads; caches = slice_set bus.caches d (line_filled (cache_of bus.caches d) pa (line_bytes bus.ram pa)); counts = slice_set bus.counts d (with_miss (counts_of bus.counts d)) }) (after_load world d pa true)
-unfolding after_load stands
-represents-miss bus world d pa reads known sound miss is = record {
-  ram = is.ram;
-  uart = is.uart;
-  ompic = is.ompic;
-  valid = record { marks = is.valid.marks; reached = is.valid.reached; ompic = is.valid.ompic };
-  writes = is.writes;
-  lines = λ c line h base. each_set (λ c lines. c < bus.cores → holds lines line ≡ held (load_of d (line_of pa) ∷ world.accesses) c line) bus.caches d _ [] (omega (arith, sound.all_caches))
-      (λ k. told-miss world.accesses d pa (line_bytes bus.ram pa) (cache_of bus.caches d) (sound.all_lines d k) (λ l b. is.lines d l k b) line base)
-      (λ c ne k. told-other_load world.accesses c d (line_of pa) (cache_of bus.caches c) ne (λ l b. is.lines c l k b) line base)
-      c h;
-  reserved = is.reserved;
-  counted = each_set (λ c counts. c < bus.cores → IsCount (load_of d (line_of pa) ∷ world.accesses) c counts) bus.counts d _ no_counts (omega (arith, sound.few, sound.all_counts))
-      (λ k. count-miss world.accesses d (line_of pa) _ (sym (is.lines d (line_of pa) k (line_of_base pa)) ∙ miss) (is.counted d k))
-      (λ c ne k. count-other world.accesses c d (line_of pa) _ ne (is.counted c k));
+sound-drop : (cores : ℕ) (ram : List ℕ) (caches : List (List (Option Line))) (slots : List (Option ℕ)) (counts : List Counts) (statuses : List ℕ) (d pa : ℕ) → d < cores → AreSound cores ram caches slots counts statuses → AreSound cores ram (slice_set caches d (line_dropped (cache_of caches d) pa)) slots counts statuses
+sound-drop cores ram caches slots counts statuses d pa known sound = record {
+  few = sound.few;
+  all_caches = length-set caches d _ ∙ sound.all_caches;
+  all_slots = sound.all_slots;
+  all_counts = sound.all_counts;
+  all_statuses = sound.all_statuses;
+  all_lines = each_set (λ c lines. c < cores → length lines ≡ 128) caches d _ [] (omega (arith, sound.all_caches)) (λ k. length-dropped (cache_of caches d) pa ∙ sound.all_lines d k) (λ c ne k. sound.all_lines c k);
+  coherent = each_set (λ c lines. c < cores → IsCoherent ram lines) caches d _ [] (omega (arith, sound.all_caches)) (λ k. coherent-dropped ram (cache_of caches d) pa (sound.all_lines d k) (sound.coherent d k)) (λ c ne k. sound.coherent c k);
 }
 
--- a cached load whose line is not held
-pub track-miss : (bus new : BusState) (world : World) (d pa : ℕ) → IsSound bus → d < bus.cores → held_word (cache_of bus.caches d) pa ≡ None
-    → new ≡ record bus { reads = counted_up bus.reads; caches = slice_set bus.caches d (line_filled (cache_of bus.caches d) pa (line_bytes bus.ram pa)); counts = slice_set bus.counts d (with_miss (counts_of bus.counts d)) } → Represents bus world → Represents new (after_load world d pa true)
-track-miss bus new world d pa sound known lacking is before =
-    subst (λ bus. Represents bus (after_load world d pa true)) (sym is)
-    (represents-miss bus world d pa (counted_up bus.reads) known sound (holds-held_word (cache_of bus.caches d) pa ∙ ap is_some lacking) before)
-
-represents-plain_load : (bus : BusState) (world : World) (d pa reads : ℕ) → Represents bus world → Represents (record bus { reads = reads }) (after_load world d pa false)
-unfolding after_load stands
-represents-plain_load bus world d pa reads is = record {
-  ram = is.ram;
-  uart = is.uart;
-  ompic = is.ompic;
-  valid = record { marks = is.valid.marks; reached = is.valid.reached; ompic = is.valid.ompic };
-  writes = is.writes;
-  lines = is.lines;
-  reserved = is.reserved;
-  counted = λ c h. count-same world.accesses (record { core = d; kind = Loads; line = line_of pa; cached = false }) c _ refl (is.counted c h);
-}
-
--- a load past the caches
-pub track-plain_load : (bus new : BusState) (world : World) (d pa : ℕ) → new ≡ with_read bus → Represents bus world → Represents new (after_load world d pa false)
-track-plain_load bus new world d pa is before = subst (λ b. Represents b (after_load world d pa false)) (sym is) (represents-plain_load bus world d pa (counted_up bus.reads) before)
-
--- whether a word is found is what Held says
-pub found-held : (bus : BusState) (world : World) (d pa : ℕ) → d < bus.cores → Represents bus world → is_some (held_word (cache_of bus.caches d) pa) ≡ held world.accesses d (line_of pa)
-found-held bus world d pa known is = sym (holds-held_word (cache_of bus.caches d) pa) ∙ is.lines d (line_of pa) known (line_of_base pa)
-
--- A CHANGE THAT NO WORLD TELLS
-
-represents-untold : (bus : BusState) (world : World) (reads : ℕ) (last : Option _) → Represents bus world → Represents (record bus { reads = reads; last = last }) world
-represents-untold bus world reads last is = record { ram = is.ram; uart = is.uart; ompic = is.ompic; valid = is.valid; writes = is.writes; lines = is.lines; reserved = is.reserved; counted = is.counted }
-
-pub track-read : (bus new : BusState) (world : World) → new ≡ with_read bus → Represents bus world → Represents new world
-track-read bus new world is before = subst (λ b. Represents b world) (sym is) (represents-untold bus world (counted_up bus.reads) bus.last before)
-
-pub track-noted : (bus new : BusState) (world : World) (last : Option _) → new ≡ record bus { last = last } → Represents bus world → Represents new world
-track-noted bus new world last is before = subst (λ b. Represents b world) (sym is) (represents-untold bus world bus.reads last before)
-
-pub ruleset reads = (track-read, track-plain_load)
-
--- A STORE
-
-told-store_here : (accesses : List Access) (d pa v : ℕ) (width : Width) (cached : Bool) (lines : List (Option Line)) → length lines ≡ 128 → IsAsTold accesses d lines → IsAsTold (store_of d (line_of pa) cached ∷ accesses) d (own_lines_after lines pa width v cached)
-told-store_here accesses d pa v width true lines len told = told-own_store accesses d pa v width lines len told
-told-store_here accesses d pa v width false lines len told = told-other_store accesses d d pa false lines len (λ e. absurd (true≢false (sym e))) told
-
-abbrev written : BusState → ℕ → ℕ → Width → ℕ → List (List (Option Line)) → BusState
-written bus reads pa width v caches = record bus { ram = stored bus.ram pa width v; reads = reads; caches = caches; slots = map (after_write (word_address pa)) bus.slots; writes = counted_up bus.writes }
-
-represents-store : (bus : BusState) (world : World) (d pa v reads : ℕ) (width : Width) (cached : Bool) (caches : List (List (Option Line))) → d < bus.cores → IsSound bus → AreWritten bus.caches d pa v width cached caches → Represents bus world
-    → Represents (written bus reads pa width v caches) (after_store world d pa width v cached)
-unfolding after_store stands
-represents-store bus world d pa v reads width cached caches known sound change is = record {
-  ram = ap (λ ram. stored ram pa width v) is.ram;
-  uart = is.uart;
-  ompic = is.ompic;
-  valid = record { marks = is.valid.marks; reached = λ c word k e. simp length-append (omega (arith, is.valid.reached c word k e)); ompic = is.valid.ompic };
-  writes = simp length-append (omega (arith, is.writes));
-  lines = λ c line h base. each_core (λ c. c < bus.cores → holds (cache_of caches c) line ≡ held (store_of d (line_of pa) cached ∷ world.accesses) c line) d
-      (λ k. ap (λ lines. holds lines line) change.own ∙ told-store_here world.accesses d pa v width cached (cache_of bus.caches d) (sound.all_lines d k) (λ l b. is.lines d l k b) line base)
-      (λ c ne k. ap (λ lines. holds lines line) (change.others c (omega (arith, sound.all_caches)) ne) ∙ told-other_store world.accesses c d pa cached (cache_of bus.caches c) (sound.all_lines c k) (λ e. ne) (λ l b. is.lines c l k b) line base)
-      c h;
-  reserved = λ c word h. ap (is_for word) (get_or-map (after_write (word_address pa)) bus.slots c None)
-      ∙ slot-wrote world.writes d (word_address pa) (slice_index_or world.marks c None) (slice_index_or bus.slots c None) (λ w k e. is.valid.reached c w k e) (λ w. is.reserved c w h) word;
-  counted = λ c h. count-same world.accesses (store_of d (line_of pa) cached) c _ refl (is.counted c h);
-}
-
-pub track_store : (bus new : BusState) (world : World) (d pa v : ℕ) (width : Width) (cached : Bool) → d < bus.cores → IsSound bus → IsWritten bus d pa v width cached new → Represents bus world → Represents new (after_store world d pa width v cached)
-track_store bus new world d pa v width cached known sound change is =
-    let same : new ≡ written bus new.reads pa width v new.caches = written-is bus new pa v width change.same_cores change.ram_after change.slots_after change.writes_after change.same_counts change.same_uart change.same_spare change.same_ompic change.same_last in
-    subst (λ b. Represents b (after_store world d pa width v cached)) (sym same) (represents-store bus world d pa v new.reads width cached new.caches known sound change.caches_after is)
-  where
-    written-is : (bus new : BusState) (pa v : ℕ) (width : Width) → new.cores ≡ bus.cores → new.ram ≡ stored bus.ram pa width v → new.slots ≡ map (after_write (word_address pa)) bus.slots → new.writes ≡ counted_up bus.writes → new.counts ≡ bus.counts → new.uart ≡ bus.uart → new.spare ≡ bus.spare → new.ompic ≡ bus.ompic → new.last ≡ bus.last → new ≡ written bus new.reads pa width v new.caches
-    written-is bus new pa v width e1 e2 e3 e4 e5 e6 e7 e8 e9 = let e : ◌≡◌ {A = BusState} (record { cores = new.cores; ram = new.ram; reads = new.reads; caches = new.caches; slots = new.slots; counts = new.counts; writes = new.writes; uart = new.uart; spare = new.spare; ompic = new.ompic; last = new.last }) (written bus new.reads pa width v new.caches) = cc in e
+pub sound-dropped : (cores : ℕ) (ram : List ℕ) (caches new : List (List (Option Line))) (slots : List (Option ℕ)) (counts : List Counts) (statuses : List ℕ) (d pa : ℕ) → AreSound cores ram caches slots counts statuses → d < cores
+    → new ≡ slice_set caches d (line_dropped (cache_of caches d) pa) → AreSound cores ram new slots counts statuses
+sound-dropped cores ram caches new slots counts statuses d pa sound known is =
+    subst (λ b. AreSound cores ram b slots counts statuses) (sym is) (sound-drop cores ram caches slots counts statuses d pa known sound)
 
 sound-here : (ram : List ℕ) (lines : List (Option Line)) (pa v : ℕ) (width : Width) (cached : Bool) → pa % bytes_of width ≡ 0 → length lines ≡ 128 → IsCoherent ram lines → IsCoherent (stored ram pa width v) (own_lines_after lines pa width v cached)
 sound-here ram lines pa v width true aligned len is = coherent-updated ram lines pa v width len aligned is
@@ -204,28 +120,136 @@ sound-written cores ram after caches new slots left counts statuses d pa v width
     (subst (λ r. AreSound cores r new (map (after_write (word_address pa)) slots) counts statuses) (sym is_after)
     (sound-store cores ram caches new slots counts statuses d pa v width cached known aligned sound change))
 
--- A LINE IS KEPT
+-- A LOAD
 
-sound-filled : (cores : ℕ) (ram : List ℕ) (caches : List (List (Option Line))) (slots : List (Option ℕ)) (counts : List Counts) (statuses : List ℕ) (d pa : ℕ) → AreSound cores ram caches slots counts statuses → d < cores → line_of pa + 32 ≤ length ram
-    → AreSound cores ram (slice_set caches d (line_filled (cache_of caches d) pa (line_bytes ram pa))) slots counts statuses
-sound-filled cores ram caches slots counts statuses d pa sound known inside = record {
-  few = sound.few;
-  all_caches = length-set caches d _ ∙ sound.all_caches;
-  all_slots = sound.all_slots;
-  all_counts = sound.all_counts;
-  all_statuses = sound.all_statuses;
-  all_lines = each_set (λ c lines. c < cores → length lines ≡ 128) caches d _ [] (omega (arith, sound.all_caches))
-      (λ k. length-filled (cache_of caches d) pa (line_bytes ram pa) ∙ sound.all_lines d k)
-      (λ c ne k. sound.all_lines c k);
-  coherent = each_set (λ c lines. c < cores → IsCoherent ram lines) caches d _ [] (omega (arith, sound.all_caches))
-      (λ k. coherent-filled ram (cache_of caches d) pa (sound.all_lines d k) (sound.coherent d k) inside)
-      (λ c ne k. sound.coherent c k);
+represents-hit : (bus : BusState) (world : World) (d pa : ℕ) → d < bus.cores → IsSound bus → holds (cache_of bus.caches d) (line_of pa) ≡ true → Represents bus world
+    → Represents (record bus { counts = slice_set bus.counts d (with_hit (counts_of bus.counts d)) }) (after_load world d pa true)
+unfolding after_load stands
+represents-hit bus world d pa known sound hit is = record {
+  ram = is.ram;
+  uart = is.uart;
+  ompic = is.ompic;
+  valid = record { marks = is.valid.marks; reached = is.valid.reached; ompic = is.valid.ompic };
+  writes = is.writes;
+  lines = λ c line h base. each_core (λ c. c < bus.cores → holds (cache_of bus.caches c) line ≡ held (load_of d (line_of pa) ∷ world.accesses) c line) d
+      (λ k. told-hit world.accesses d (line_of pa) (cache_of bus.caches d) hit (λ l b. is.lines d l k b) line base)
+      (λ c ne k. told-other_load world.accesses c d (line_of pa) (cache_of bus.caches c) ne (λ l b. is.lines c l k b) line base)
+      c h;
+  coherent = is.coherent;
+  reserved = is.reserved;
+  counted = each_set (λ c counts. c < bus.cores → IsCount (load_of d (line_of pa) ∷ world.accesses) c counts) bus.counts d _ no_counts (omega (arith, sound.few, sound.all_counts))
+      (λ k. count-hit world.accesses d (line_of pa) _ (sym (is.lines d (line_of pa) k (line_of_base pa)) ∙ hit) (is.counted d k))
+      (λ c ne k. count-other world.accesses c d (line_of pa) _ ne (is.counted c k));
 }
 
-pub sound-kept : (cores : ℕ) (ram : List ℕ) (caches new : List (List (Option Line))) (slots : List (Option ℕ)) (counts : List Counts) (statuses : List ℕ) (d pa : ℕ) → AreSound cores ram caches slots counts statuses → d < cores → line_of pa + 32 ≤ length ram
-    → new ≡ slice_set caches d (line_filled (cache_of caches d) pa (line_bytes ram pa)) → AreSound cores ram new slots counts statuses
-sound-kept cores ram caches new slots counts statuses d pa sound known inside is =
-    subst (λ caches. AreSound cores ram caches slots counts statuses) (sym is) (sound-filled cores ram caches slots counts statuses d pa sound known inside)
+-- a cached load whose line is held
+pub track-hit : (bus new : BusState) (world : World) (d pa word : ℕ) → IsSound bus → d < bus.cores → held_word (cache_of bus.caches d) pa ≡ Some word
+    → new ≡ record bus { counts = slice_set bus.counts d (with_hit (counts_of bus.counts d)) } → Represents bus world → Represents new (after_load world d pa true)
+track-hit bus new world d pa word sound known found is before =
+    subst (λ bus. Represents bus (after_load world d pa true)) (sym is)
+    (represents-hit bus world d pa known sound (holds-held_word (cache_of bus.caches d) pa ∙ ap is_some found) before)
+
+represents-miss : (bus : BusState) (world : World) (d pa reads : ℕ) → d < bus.cores → IsSound bus → line_of pa + 32 ≤ length bus.ram → holds (cache_of bus.caches d) (line_of pa) ≡ false → Represents bus world
+    → Represents (record bus { reads = reads; caches = slice_set bus.caches d (line_filled (cache_of bus.caches d) pa (line_bytes bus.ram pa)); counts = slice_set bus.counts d (with_miss (counts_of bus.counts d)) }) (after_load world d pa true)
+unfolding after_load stands
+represents-miss bus world d pa reads known sound inside miss is = record {
+  ram = is.ram;
+  uart = is.uart;
+  ompic = is.ompic;
+  valid = record { marks = is.valid.marks; reached = is.valid.reached; ompic = is.valid.ompic };
+  writes = is.writes;
+  lines = λ c line h base. each_set (λ c lines. c < bus.cores → holds lines line ≡ held (load_of d (line_of pa) ∷ world.accesses) c line) bus.caches d _ [] (omega (arith, sound.all_caches))
+      (λ k. told-miss world.accesses d pa (line_bytes bus.ram pa) (cache_of bus.caches d) (sound.all_lines d k) (λ l b. is.lines d l k b) line base)
+      (λ c ne k. told-other_load world.accesses c d (line_of pa) (cache_of bus.caches c) ne (λ l b. is.lines c l k b) line base)
+      c h;
+  coherent = (sound-filled bus.cores bus.ram bus.caches bus.slots bus.counts bus.ompic d pa sound known inside).coherent;
+  reserved = is.reserved;
+  counted = each_set (λ c counts. c < bus.cores → IsCount (load_of d (line_of pa) ∷ world.accesses) c counts) bus.counts d _ no_counts (omega (arith, sound.few, sound.all_counts))
+      (λ k. count-miss world.accesses d (line_of pa) _ (sym (is.lines d (line_of pa) k (line_of_base pa)) ∙ miss) (is.counted d k))
+      (λ c ne k. count-other world.accesses c d (line_of pa) _ ne (is.counted c k));
+}
+
+-- a cached load whose line is not held
+pub track-miss : (bus new : BusState) (world : World) (d pa : ℕ) → IsSound bus → d < bus.cores → line_of pa + 32 ≤ length bus.ram → held_word (cache_of bus.caches d) pa ≡ None
+    → new ≡ record bus { reads = counted_up bus.reads; caches = slice_set bus.caches d (line_filled (cache_of bus.caches d) pa (line_bytes bus.ram pa)); counts = slice_set bus.counts d (with_miss (counts_of bus.counts d)) } → Represents bus world → Represents new (after_load world d pa true)
+track-miss bus new world d pa sound known inside lacking is before =
+    subst (λ bus. Represents bus (after_load world d pa true)) (sym is)
+    (represents-miss bus world d pa (counted_up bus.reads) known sound inside (holds-held_word (cache_of bus.caches d) pa ∙ ap is_some lacking) before)
+
+represents-plain_load : (bus : BusState) (world : World) (d pa reads : ℕ) → Represents bus world → Represents (record bus { reads = reads }) (after_load world d pa false)
+unfolding after_load stands
+represents-plain_load bus world d pa reads is = record {
+  ram = is.ram;
+  uart = is.uart;
+  ompic = is.ompic;
+  valid = record { marks = is.valid.marks; reached = is.valid.reached; ompic = is.valid.ompic };
+  writes = is.writes;
+  lines = is.lines;
+  coherent = is.coherent;
+  reserved = is.reserved;
+  counted = λ c h. count-same world.accesses (record { core = d; kind = Loads; line = line_of pa; cached = false }) c _ refl (is.counted c h);
+}
+
+-- a load past the caches
+pub track-plain_load : (bus new : BusState) (world : World) (d pa : ℕ) → new ≡ with_read bus → Represents bus world → Represents new (after_load world d pa false)
+track-plain_load bus new world d pa is before = subst (λ b. Represents b (after_load world d pa false)) (sym is) (represents-plain_load bus world d pa (counted_up bus.reads) before)
+
+-- whether a word is found is what Held says
+pub found-held : (bus : BusState) (world : World) (d pa : ℕ) → d < bus.cores → Represents bus world → is_some (held_word (cache_of bus.caches d) pa) ≡ held world.accesses d (line_of pa)
+found-held bus world d pa known is = sym (holds-held_word (cache_of bus.caches d) pa) ∙ is.lines d (line_of pa) known (line_of_base pa)
+
+-- A CHANGE THAT NO WORLD TELLS
+
+represents-untold : (bus : BusState) (world : World) (reads : ℕ) (last : Option _) → Represents bus world → Represents (record bus { reads = reads; last = last }) world
+represents-untold bus world reads last is = record { ram = is.ram; uart = is.uart; ompic = is.ompic; valid = is.valid; writes = is.writes; lines = is.lines; coherent = is.coherent; reserved = is.reserved; counted = is.counted }
+
+pub track-read : (bus new : BusState) (world : World) → new ≡ with_read bus → Represents bus world → Represents new world
+track-read bus new world is before = subst (λ b. Represents b world) (sym is) (represents-untold bus world (counted_up bus.reads) bus.last before)
+
+-- however often RAM was read
+pub track-reads : (bus new : BusState) (world : World) → new ≡ record bus { reads = new.reads } → Represents bus world → Represents new world
+track-reads bus new world is before = subst (λ b. Represents b world) (sym is) (represents-untold bus world new.reads bus.last before)
+
+pub track-noted : (bus new : BusState) (world : World) (last : Option _) → new ≡ record bus { last = last } → Represents bus world → Represents new world
+track-noted bus new world last is before = subst (λ b. Represents b world) (sym is) (represents-untold bus world bus.reads last before)
+
+pub ruleset reads = (track-read, track-plain_load)
+
+-- A STORE
+
+told-store_here : (accesses : List Access) (d pa v : ℕ) (width : Width) (cached : Bool) (lines : List (Option Line)) → length lines ≡ 128 → IsAsTold accesses d lines → IsAsTold (store_of d (line_of pa) cached ∷ accesses) d (own_lines_after lines pa width v cached)
+told-store_here accesses d pa v width true lines len told = told-own_store accesses d pa v width lines len told
+told-store_here accesses d pa v width false lines len told = told-other_store accesses d d pa false lines len (λ e. absurd (true≢false (sym e))) told
+
+abbrev written : BusState → ℕ → ℕ → Width → ℕ → List (List (Option Line)) → BusState
+written bus reads pa width v caches = record bus { ram = stored bus.ram pa width v; reads = reads; caches = caches; slots = map (after_write (word_address pa)) bus.slots; writes = counted_up bus.writes }
+
+represents-store : (bus : BusState) (world : World) (d pa v reads : ℕ) (width : Width) (cached : Bool) (caches : List (List (Option Line))) → d < bus.cores → pa % bytes_of width ≡ 0 → IsSound bus → AreWritten bus.caches d pa v width cached caches → Represents bus world
+    → Represents (written bus reads pa width v caches) (after_store world d pa width v cached)
+unfolding after_store stands
+represents-store bus world d pa v reads width cached caches known aligned sound change is = record {
+  ram = ap (λ ram. stored ram pa width v) is.ram;
+  uart = is.uart;
+  ompic = is.ompic;
+  valid = record { marks = is.valid.marks; reached = λ c word k e. simp length-append (omega (arith, is.valid.reached c word k e)); ompic = is.valid.ompic };
+  writes = simp length-append (omega (arith, is.writes));
+  lines = λ c line h base. each_core (λ c. c < bus.cores → holds (cache_of caches c) line ≡ held (store_of d (line_of pa) cached ∷ world.accesses) c line) d
+      (λ k. ap (λ lines. holds lines line) change.own ∙ told-store_here world.accesses d pa v width cached (cache_of bus.caches d) (sound.all_lines d k) (λ l b. is.lines d l k b) line base)
+      (λ c ne k. ap (λ lines. holds lines line) (change.others c (omega (arith, sound.all_caches)) ne) ∙ told-other_store world.accesses c d pa cached (cache_of bus.caches c) (sound.all_lines c k) (λ e. ne) (λ l b. is.lines c l k b) line base)
+      c h;
+  coherent = (sound-store bus.cores bus.ram bus.caches caches bus.slots bus.counts bus.ompic d pa v width cached known aligned sound change).coherent;
+  reserved = λ c word h. ap (is_for word) (get_or-map (after_write (word_address pa)) bus.slots c None)
+      ∙ slot-wrote world.writes d (word_address pa) (slice_index_or world.marks c None) (slice_index_or bus.slots c None) (λ w k e. is.valid.reached c w k e) (λ w. is.reserved c w h) word;
+  counted = λ c h. count-same world.accesses (store_of d (line_of pa) cached) c _ refl (is.counted c h);
+}
+
+pub track_store : (bus new : BusState) (world : World) (d pa v : ℕ) (width : Width) (cached : Bool) → d < bus.cores → pa % bytes_of width ≡ 0 → IsSound bus → IsWritten bus d pa v width cached new → Represents bus world → Represents new (after_store world d pa width v cached)
+track_store bus new world d pa v width cached known aligned sound change is =
+    let same : new ≡ written bus new.reads pa width v new.caches = written-is bus new pa v width change.same_cores change.ram_after change.slots_after change.writes_after change.same_counts change.same_uart change.same_spare change.same_ompic change.same_last in
+    subst (λ b. Represents b (after_store world d pa width v cached)) (sym same) (represents-store bus world d pa v new.reads width cached new.caches known aligned sound change.caches_after is)
+  where
+    written-is : (bus new : BusState) (pa v : ℕ) (width : Width) → new.cores ≡ bus.cores → new.ram ≡ stored bus.ram pa width v → new.slots ≡ map (after_write (word_address pa)) bus.slots → new.writes ≡ counted_up bus.writes → new.counts ≡ bus.counts → new.uart ≡ bus.uart → new.spare ≡ bus.spare → new.ompic ≡ bus.ompic → new.last ≡ bus.last → new ≡ written bus new.reads pa width v new.caches
+    written-is bus new pa v width e1 e2 e3 e4 e5 e6 e7 e8 e9 = let e : ◌≡◌ {A = BusState} (record { cores = new.cores; ram = new.ram; reads = new.reads; caches = new.caches; slots = new.slots; counts = new.counts; writes = new.writes; uart = new.uart; spare = new.spare; ompic = new.ompic; last = new.last }) (written bus new.reads pa width v new.caches) = cc in e
 
 -- MARKS
 
@@ -249,6 +273,7 @@ marks_change bus world d mark slot known sound is reached of = record {
   };
   writes = is.writes;
   lines = is.lines;
+  coherent = is.coherent;
   reserved = λ c w h. each_core (λ c. c < bus.cores → is_for w (slice_index_or (slice_set bus.slots d slot) c None) ≡ stands_by world.writes w (slice_index_or (slice_set world.marks d mark) c None)) d
       (λ k. ap (is_for w) (get_or-set_same bus.slots d slot None (omega (arith, sound.all_slots, sound.few)))
       ∙ of w
@@ -293,28 +318,13 @@ represents-drop bus world d pa known sound is = record {
       (λ k. told-own_drop world.accesses d pa (cache_of bus.caches d) (sound.all_lines d k) (λ l b. is.lines d l k b) line base)
       (λ c ne k. told-other_drop world.accesses c d (line_of pa) (cache_of bus.caches c) ne (λ l b. is.lines c l k b) line base)
       c h;
+  coherent = (sound-drop bus.cores bus.ram bus.caches bus.slots bus.counts bus.ompic d pa known sound).coherent;
   reserved = is.reserved;
   counted = λ c h. count-same world.accesses (drop_of d (line_of pa)) c _ refl (is.counted c h);
 }
 
 pub track-drop : (bus new : BusState) (world : World) (d pa : ℕ) → d < bus.cores → IsSound bus → new ≡ record bus { caches = slice_set bus.caches d (line_dropped (cache_of bus.caches d) pa) } → Represents bus world → Represents new (after_drop world d pa)
 track-drop bus new world d pa known sound is before = subst (λ b. Represents b (after_drop world d pa)) (sym is) (represents-drop bus world d pa known sound before)
-
-sound-drop : (cores : ℕ) (ram : List ℕ) (caches : List (List (Option Line))) (slots : List (Option ℕ)) (counts : List Counts) (statuses : List ℕ) (d pa : ℕ) → d < cores → AreSound cores ram caches slots counts statuses → AreSound cores ram (slice_set caches d (line_dropped (cache_of caches d) pa)) slots counts statuses
-sound-drop cores ram caches slots counts statuses d pa known sound = record {
-  few = sound.few;
-  all_caches = length-set caches d _ ∙ sound.all_caches;
-  all_slots = sound.all_slots;
-  all_counts = sound.all_counts;
-  all_statuses = sound.all_statuses;
-  all_lines = each_set (λ c lines. c < cores → length lines ≡ 128) caches d _ [] (omega (arith, sound.all_caches)) (λ k. length-dropped (cache_of caches d) pa ∙ sound.all_lines d k) (λ c ne k. sound.all_lines c k);
-  coherent = each_set (λ c lines. c < cores → IsCoherent ram lines) caches d _ [] (omega (arith, sound.all_caches)) (λ k. coherent-dropped ram (cache_of caches d) pa (sound.all_lines d k) (sound.coherent d k)) (λ c ne k. sound.coherent c k);
-}
-
-pub sound-dropped : (cores : ℕ) (ram : List ℕ) (caches new : List (List (Option Line))) (slots : List (Option ℕ)) (counts : List Counts) (statuses : List ℕ) (d pa : ℕ) → AreSound cores ram caches slots counts statuses → d < cores
-    → new ≡ slice_set caches d (line_dropped (cache_of caches d) pa) → AreSound cores ram new slots counts statuses
-sound-dropped cores ram caches new slots counts statuses d pa sound known is =
-    subst (λ b. AreSound cores ram b slots counts statuses) (sym is) (sound-drop cores ram caches slots counts statuses d pa known sound)
 
 -- THE DEVICES
 
@@ -333,7 +343,7 @@ length-ompic_written statuses offset v =
     let before : List ℕ = acknowledged statuses (offset / 8) v in
     length-if (is_status_offset offset) statuses (generated before (offset / 8) v)
     (length-set_if (has v 0x40000000 && nat_lt (destination_core v) (length before)) before (destination_core v) (0x40000000 + offset / 8 * 0x10000 + v % 0x10000)
-      ∙ length-set_if (has v 0x80000000) statuses (offset / 8) 0)
+    ∙ length-set_if (has v 0x80000000) statuses (offset / 8) 0)
 
 represents-uart : (bus : BusState) (world : World) (state : UartState) (spare : ℕ) → Represents bus world → Represents (record bus { uart = state; spare = spare }) (record world { uart = state })
 unfolding stands
@@ -344,6 +354,7 @@ represents-uart bus world state spare is = record {
   valid = record { marks = is.valid.marks; reached = is.valid.reached; ompic = is.valid.ompic };
   writes = is.writes;
   lines = is.lines;
+  coherent = is.coherent;
   reserved = is.reserved;
   counted = is.counted;
 }
@@ -352,13 +363,13 @@ pub track-uart_read : (bus new : BusState) (world : World) (reg : ℕ) → new �
 track-uart_read bus new world reg is before =
     subst (λ b. Represents b (record world { uart = uart_after_read world.uart reg })) (sym is)
     (subst (λ u. Represents (record bus { uart = uart_after_read bus.uart reg }) (record world { uart = uart_after_read u reg })) before.uart
-      (represents-uart bus world (uart_after_read bus.uart reg) bus.spare before))
+    (represents-uart bus world (uart_after_read bus.uart reg) bus.spare before))
 
 pub track-uart_written : (bus new : BusState) (world : World) (reg v spare : ℕ) → new ≡ record bus { uart = uart_written bus.uart reg v; spare = spare } → Represents bus world → Represents new (record world { uart = uart_written world.uart reg v })
 track-uart_written bus new world reg v spare is before =
     subst (λ b. Represents b (record world { uart = uart_written world.uart reg v })) (sym is)
     (subst (λ u. Represents (record bus { uart = uart_written bus.uart reg v; spare = spare }) (record world { uart = uart_written u reg v })) before.uart
-      (represents-uart bus world (uart_written bus.uart reg v) spare before))
+    (represents-uart bus world (uart_written bus.uart reg v) spare before))
 
 represents-ompic : (bus : BusState) (world : World) (statuses : List ℕ) → length statuses ≡ bus.cores → Represents bus world → Represents (record bus { ompic = statuses }) (record world { ompic = statuses })
 unfolding stands
@@ -369,6 +380,7 @@ represents-ompic bus world statuses all is = record {
   valid = record { marks = is.valid.marks; reached = is.valid.reached; ompic = all };
   writes = is.writes;
   lines = is.lines;
+  coherent = is.coherent;
   reserved = is.reserved;
   counted = is.counted;
 }
@@ -377,7 +389,7 @@ pub track-ompic_written : (bus new : BusState) (world : World) (offset v : ℕ) 
 track-ompic_written bus new world offset v sound is before =
     subst (λ b. Represents b (record world { ompic = ompic_written world.ompic offset v })) (sym is)
     (subst (λ s. Represents (record bus { ompic = ompic_written bus.ompic offset v }) (record world { ompic = ompic_written s offset v })) before.ompic
-      (represents-ompic bus world (ompic_written bus.ompic offset v) (length-ompic_written bus.ompic offset v ∙ sound.all_statuses) before))
+    (represents-ompic bus world (ompic_written bus.ompic offset v) (length-ompic_written bus.ompic offset v ∙ sound.all_statuses) before))
 
 pub sound-ompic_written : (cores : ℕ) (ram : List ℕ) (caches : List (List (Option Line))) (slots : List (Option ℕ)) (counts : List Counts) (statuses new : List ℕ) (offset v : ℕ) → AreSound cores ram caches slots counts statuses → new ≡ ompic_written statuses offset v → AreSound cores ram caches slots counts new
 sound-ompic_written cores ram caches slots counts statuses new offset v sound is = record {
@@ -400,6 +412,10 @@ none_at (suc n) (suc place) = none_at n place
 cache_at : (cores c : ℕ) → c < cores → cache_of (replicate cores no_lines) c ≡ no_lines
 cache_at cores c h = get_or-replicate cores c no_lines [] h
 
+coherent-start : (cores : ℕ) (ram : List ℕ) (caches : List (List (Option Line))) → caches ≡ replicate cores no_lines → (c : ℕ) → c < cores → IsCoherent ram (cache_of caches c)
+coherent-start cores ram caches no_caches c h =
+    subst (λ b. IsCoherent ram (cache_of b c)) (sym no_caches) (subst (IsCoherent ram) (sym (cache_at cores c h)) (λ index line k is. absurd (none_is_some (sym (none_at 128 index) ∙ is))))
+
 pub sound-start : (cores : ℕ) (ram : List ℕ) (caches : List (List (Option Line))) (slots : List (Option ℕ)) (counts : List Counts) (statuses : List ℕ) → cores ≤ 8 → caches ≡ replicate cores no_lines → slots ≡ replicate 8 None → length counts ≡ 8 → length statuses ≡ cores → AreSound cores ram caches slots counts statuses
 sound-start cores ram caches slots counts statuses few no_caches no_slots eight all = record {
   few = few;
@@ -408,7 +424,7 @@ sound-start cores ram caches slots counts statuses few no_caches no_slots eight 
   all_counts = eight;
   all_statuses = all;
   all_lines = λ c h. ap (λ b. length (cache_of b c)) no_caches ∙ ap length (cache_at cores c h);
-  coherent = λ c h. subst (λ b. IsCoherent ram (cache_of b c)) (sym no_caches) (subst (IsCoherent ram) (sym (cache_at cores c h)) (λ index line k is. absurd (none_is_some (sym (none_at 128 index) ∙ is))));
+  coherent = coherent-start cores ram caches no_caches;
 }
 
 pub represents-start : (bus : BusState) (input : List ℕ) → bus.caches ≡ replicate bus.cores no_lines → bus.slots ≡ replicate 8 None → bus.counts ≡ replicate 8 no_counts → bus.writes ≡ 0 → bus.uart ≡ reset_uart input → bus.ompic ≡ replicate bus.cores 0 → Represents bus (new_world bus.ram bus.cores input)
@@ -421,6 +437,7 @@ represents-start bus input no_caches no_slots no_hits no_writes reset quiet = re
   writes = no_writes;
   lines = λ c line h base. ap (λ b. is_line line (slice_index_or (cache_of b c) (index_of line) None)) no_caches
       ∙ ap (λ b. is_line line (slice_index_or b (index_of line) None)) (cache_at bus.cores c h) ∙ ap (is_line line) (none_at 128 (index_of line));
+  coherent = coherent-start bus.cores bus.ram bus.caches no_caches;
   reserved = λ c word h. ap (λ s. is_for word (slice_index_or s c None)) no_slots ∙ ap (is_for word) (none_at 8 c) ∙ sym (ap (stands_by [] word) (none_at bus.cores c));
   counted = λ c h. ap (λ n. counts_of n c) no_hits ∙ counts_at 8 c;
 }
@@ -432,16 +449,17 @@ represents-start bus input no_caches no_slots no_hits no_writes reset quiet = re
 
 -- WHAT STANDS AT AN INDEX
 
-told_by : (bus : BusState) (world : World) (c index : ℕ) (here : Option Line) → IsSound bus → Represents bus world → c < bus.cores → index < 128 → line_at_index (cache_of bus.caches c) index ≡ here → IsLineTold world c index (address_and_bytes here)
+told_by : (bus : BusState) (world : World) (c index : ℕ) (here : Option Line) → Represents bus world → c < bus.cores → index < 128 → line_at_index (cache_of bus.caches c) index ≡ here → IsLineTold world c index (address_and_bytes here)
 unfolding holds
-told_by bus world c index None sound is known inside at =
+told_by bus world c index None is known inside at =
     λ line base same. sym (is.lines c line known base) ∙ ap (λ i. is_line line (slice_index_or (cache_of bus.caches c) i None)) same ∙ ap (is_line line) at
-told_by bus world c index (Some line) sound is known inside at =
-    let kept : IsLineOf bus.ram index line = sound.coherent c known index line inside at in
-    (kept.aligned,
+told_by bus world c index (Some line) is known inside at =
+    let kept : IsLineOf bus.ram index line = is.coherent c known index line inside at in (
+      kept.aligned,
       kept.indexed,
       sym (is.lines c line.address known kept.aligned) ∙ ap (λ i. is_line line.address (slice_index_or (cache_of bus.caches c) i None)) kept.indexed ∙ ap (is_line line.address) at ∙ grind (arith, nat_tests),
-      kept.same ∙ ap (λ ram. slice_range ram line.address (line.address + 32)) is.ram)
+      kept.same ∙ ap (λ ram. slice_range ram line.address (line.address + 32)) is.ram,
+    )
 
-pub told : (bus : BusState) (world : World) (c index : ℕ) (here : Option (ℕ × List ℕ)) → IsSound bus → Represents bus world → c < bus.cores → index < 128 → here ≡ address_and_bytes (line_at_index (cache_of bus.caches c) index) → IsLineTold world c index here
-told bus world c index here sound is known inside e = subst (IsLineTold world c index) (sym e) (told_by bus world c index (line_at_index (cache_of bus.caches c) index) sound is known inside refl)
+pub told : (bus : BusState) (world : World) (c index : ℕ) (here : Option (ℕ × List ℕ)) → Represents bus world → c < bus.cores → index < 128 → here ≡ address_and_bytes (line_at_index (cache_of bus.caches c) index) → IsLineTold world c index here
+told bus world c index here is known inside e = subst (IsLineTold world c index) (sym e) (told_by bus world c index (line_at_index (cache_of bus.caches c) index) is known inside refl)

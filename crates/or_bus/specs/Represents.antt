@@ -8,6 +8,7 @@ use Rattle.or_mem.specs.Caches.{cache_of}
 use Rattle.or_resv.specs.Slots.{is_reserved}
 use Rattle.or_bus.specs.State.{BusState, counts_of}
 use Rattle.or_bus.specs.Lines.{holds}
+use Rattle.or_bus.specs.Coherence.{IsCoherent}
 
 -- the bus is in the state that the world says
 pub record Represents (bus : BusState) (world : World) : Type 0 where
@@ -18,6 +19,8 @@ pub record Represents (bus : BusState) (world : World) : Type 0 where
   pub writes : bus.writes ≡ min (length world.writes) last_count
   -- a core holds the lines that Held names
   pub lines : (c line : ℕ) → c < bus.cores → line % 32 ≡ 0 → holds (cache_of bus.caches c) line ≡ held world.accesses c line
+  -- each of them stands at its index, with the bytes of RAM
+  pub coherent : (c : ℕ) → c < bus.cores → IsCoherent bus.ram (cache_of bus.caches c)
   -- a slot stands for the words that Stands names
   pub reserved : (c word : ℕ) → c < bus.cores → is_reserved bus.slots c word ≡ stands world c word
   -- the counts are Hits and Misses, cut at the last value of 64 bits

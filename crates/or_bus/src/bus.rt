@@ -110,6 +110,16 @@ impl Bus {
         ensures copy { IfOk result (λ bus. bus ≡ self.new) }
         ensures counted { OnOk result (self.new ≡ with_read self.old) }
         ensures failed { OnErr result ((self.new ≡ with_read self.old) ⊎ (self.new ≡ self.old)) }
+        ensures tracks { (world : World) → Represents self.old world → Represents self.new world }
+    {
+        self.copy_parts(alloc)
+    }
+
+    fn copy_parts(&mut self, alloc: Global) -> Result<Bus, NoMemory>
+        ensures copy { IfOk result (λ bus. bus ≡ self.new) }
+        ensures counted { OnOk result (self.new ≡ with_read self.old) }
+        ensures failed { OnErr result ((self.new ≡ with_read self.old) ⊎ (self.new ≡ self.old)) }
+        ensures after { self.new ≡ record self.old { reads = self.new.reads } }
     {
         let caches = self.caches.copy(alloc)?;
         let uart = self.uart.copy(alloc)?;

@@ -4,6 +4,7 @@
 
 mod access;
 mod bus;
+mod fetches;
 mod loads;
 mod narrow;
 mod readers;
@@ -17,3 +18,6 @@ pub use or_model::{Counts, Fetched};
 /// Nothing on the board answers an access of this width at this address.
 #[derive(Clone, Copy, Debug, PartialEq, Eq)]
 pub struct BusError;
+
+#[cfg(test)]
+mod tests;

@@ -1,12 +1,12 @@
-//! Loads and fetches.
+//! Loads.
 
-ghost use Rattle.std.specs.Prelude.{◌≡◌, ℕ, ◌-◌, ◌+◌, ◌%◌, ◌^◌, ◌<◌, true, false, length, slice_index, Some, OnOk, OnErr};
+ghost use Rattle.std.specs.Prelude.{◌≡◌, ℕ, ◌-◌, ◌+◌, ◌%◌, ◌^◌, ◌<◌, ◌≤◌, true, false, length, slice_index, Some, OnOk, OnErr};
 ghost use Rattle.or_words.specs.declared.Width.TheVariants.{Word};
 ghost use Rattle.or_parts.specs.Memory.{value_at, bytes_of};
 ghost use Rattle.or_parts.specs.Lines.{line_of, line_bytes, line_filled};
 ghost use Rattle.or_model.specs.World.{World, after_load, marked};
 ghost use Rattle.or_model.specs.Caches.{held};
-ghost use Rattle.or_model.specs.Bus.{fetch, load, load_linked};
+ghost use Rattle.or_model.specs.Bus.{load, load_linked};
 ghost use Rattle.or_mem.specs.Caches.{cache_of};
 ghost use Rattle.or_bus.specs.State.{counted_up, counts_of, with_read, with_miss};
 ghost use Rattle.or_bus.specs.Represents.{Represents};
@@ -18,7 +18,7 @@ use crate::BusError;
 use crate::access::AccessKind;
 use crate::bus::Bus;
 use crate::narrow::{narrow, word_of};
-use or_model::{Fetched, Region};
+use or_model::Region;
 use or_words::Width;
 
 impl Bus {
@@ -27,6 +27,7 @@ impl Bus {
         requires core { core < self.old.cores }
         requires inside { pa < length self.old.ram }
         ensures value { result ≡ line_bytes self.old.ram pa }
+        ensures inside { line_of pa + 32 ≤ length self.old.ram }
         ensures after { self.new ≡ record self.old {
           reads = counted_up self.old.reads;
           caches = slice_set self.old.caches core (line_filled (cache_of self.old.caches core) pa (line_bytes self.old.ram pa));
@@ -134,31 +135,6 @@ impl Bus {
         let value = self.load_part(core, pa, width, cached);
         self.note(core, pa, AccessKind::Load);
         value
-    }
-
-    /// A fetch of the word at an address, a multiple of four, with its line where it is cached. Only RAM answers.
-    #[tactic(auto, using(crate::proofs::Worlds::reads), unfolding(or_model::specs::Bus::fetch))]
-    pub fn fetch(&mut self, pa: u32, cached: bool) -> Result<Fetched, BusError>
-        requires { pa % 4 ≡ 0 }
-        ensures answer { (world : World) → Represents self.old world → IsAnswer (fetch world pa cached) result self.new }
-        ensures err { OnErr result (self.new ≡ self.old) }
-        ensures last { self.new.last ≡ self.old.last }
-        ensures cores { self.new.cores ≡ self.old.cores }
-        ensures spare { self.new.spare ≡ self.old.spare }
-    {
-        if !self.has_ram(pa) {
-            return Err(BusError);
-        }
-        let word = self.read_word(pa);
-        if cached {
-            let line = self.read_line(pa);
-            Ok(Fetched {
-                word,
-                line: Some(line),
-            })
-        } else {
-            Ok(Fetched { word, line: None })
-        }
     }
 
     // A load from RAM that reserves its word.

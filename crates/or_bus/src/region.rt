@@ -9,6 +9,7 @@ use or_model::Region;
 use or_words::Width;
 
 const UART: u32 = 0x9000_0000;
+
 const OMPIC: u32 = 0x9800_0000;
 
 /// What answers an access of this width at this address, on a board with so many bytes of RAM and so many cores.

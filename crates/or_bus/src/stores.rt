@@ -40,14 +40,7 @@ impl Bus {
     }
 
     // The end of an l.swa: the store, where it succeeds, and in both cases the end of the reservation.
-    fn complete_conditional(
-        &mut self,
-        core: u32,
-        pa: u32,
-        v: u32,
-        cached: bool,
-        succeeds: bool,
-    )
+    fn complete_conditional(&mut self, core: u32, pa: u32, v: u32, cached: bool, succeeds: bool)
         requires core { core < self.old.cores }
         requires inside { pa < length self.old.ram }
         requires aligned { pa % 4 ≡ 0 }

@@ -1,5 +1,5 @@
 -- What is kept of the numbers of a range, found one number after another.
-use Rattle.std.proofs.Common.{◌≡◌, ◌∙◌, ap, sym, refl, ℕ, suc, ◌+◌, ◌-◌, ◌<◌, ◌≤◌, Bool, List, [], ◌∷◌, ◌++◌, length, true, false, cond, append_assoc, arith, append-nil, length-append, map, Option, Some, None}
+use Rattle.std.proofs.Common.{◌≡◌, ◌∙◌, ap, sym, ℕ, suc, ◌+◌, ◌-◌, ◌<◌, ◌≤◌, Bool, List, [], ◌∷◌, ◌++◌, true, false, append_assoc, arith, append-nil, map, Some, None}
 use Rattle.std.specs.List.{filter, find, range_with_len}
 
 abbrev pub kept_of : {X : Type 0} → (ℕ → X) → (ℕ → Bool) → ℕ → ℕ → List X

@@ -1,5 +1,5 @@
 -- The function that starts last, found one function after another.
-use Rattle.std.proofs.Common.{◌≡◌, refl, ℕ, ◌<◌, ◌≤◌, Option, Some, None, arith, true, false, cond, nat_lt}
+use Rattle.std.proofs.Common.{◌≡◌, refl, Option, Some, None, arith}
 use Rattle.std.proofs.lemmas.Bool.Decides.{nat_tests}
 use Rattle.or_elf.specs.declared.symbols.Function.{Function}
 use Rattle.or_elf.specs.Symbols.{later_start}

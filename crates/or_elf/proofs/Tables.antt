@@ -1,5 +1,5 @@
 -- The symbol table is found one section header after another, and its functions one symbol after another.
-use Rattle.std.proofs.Common.{◌≡◌, ◌∙◌, ap, sym, ℕ, ◌+◌, ◌-◌, ◌<◌, ◌≤◌, ◌==◌, List, [], ◌∷◌, ◌++◌, true, false, eqb, arith, Some, None}
+use Rattle.std.proofs.Common.{◌≡◌, ap, ℕ, ◌+◌, ◌-◌, ◌<◌, ◌≤◌, ◌==◌, List, [], ◌∷◌, ◌++◌, true, false, eqb, Some, None}
 use Rattle.or_elf.specs.declared.symbols.Function.{Function}
 use Rattle.or_elf.specs.Symbols.{section_at, symbol_start, is_function, function_at, functions_among, table_among}
 use Rattle.or_elf.proofs.Ranges.{kept_taken, kept_passed, kept_none, first_found, first_passed, first_none}

@@ -1,5 +1,4 @@
-use Rattle.std.proofs.Common.{rules, ◌≡◌, ◌∙◌, ap, sym, false, eqb}
-use Rattle.or_elf.specs.Symbols.{section_at}
+use Rattle.std.proofs.Common.{rules, ◌∙◌, sym}
 use Rattle.or_elf.proofs.Tables.{table_found, table_passed, table_none}
 use Rattle.or_elf.proofs.sections.symbol_table.Goals as goal
 

@@ -1,5 +1,5 @@
-use Rattle.std.proofs.Common.{arith, rules, ◌≡◌, ◌++◌, ◌∷◌, [], ap}
-use Rattle.or_elf.specs.Symbols.{functions_among, function_at}
+use Rattle.std.proofs.Common.{rules, ◌≡◌, ◌++◌, ◌∷◌, [], ap}
+use Rattle.or_elf.specs.Symbols.{function_at}
 use Rattle.or_elf.proofs.Tables.{function_taken, symbol_passed, functions_read}
 use Rattle.or_elf.proofs.symbols.functions_from.Goals as goal
 use Rattle.or_elf.proofs.symbols.functions_from.Goals.{then-is_function+in_ok-push, else-is_function}

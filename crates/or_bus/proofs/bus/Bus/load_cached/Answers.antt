@@ -11,7 +11,7 @@ returns-in-Some-clause-tracks c =
 
 pub returns-in-None-clause-tracks : goal.returns-in-None-clause-tracks
 returns-in-None-clause-tracks c =
-    λ world before. track-miss c.args.self.now _ world c.args.core c.args.pa c.look.ensures.sound c.requires.core (sym c.in-None.ensures.value) c.miss-line.ensures.after before
+    λ world before. track-miss c.args.self.now _ world c.args.core c.args.pa c.look.ensures.sound c.requires.core c.miss-line.ensures.inside (sym c.in-None.ensures.value) c.miss-line.ensures.after before
 
 pub returns-in-Some-clause-value : goal.returns-in-Some-clause-value
 returns-in-Some-clause-value c =
