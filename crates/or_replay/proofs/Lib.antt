@@ -1,0 +1,7 @@
+pub mod Placing
+pub mod Reset
+pub mod Turning
+pub mod Replaying
+pub mod Bounds
+pub mod Leading
+pub mod Schedules

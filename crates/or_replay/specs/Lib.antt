@@ -1,0 +1,6 @@
+pub mod Start
+pub mod Marks
+pub mod Board
+pub mod Opening
+pub mod Report
+pub mod Rounds

@@ -1,0 +1,23 @@
+-- The marks of a schedule: how far the board's history has come after each block of turns.
+use Rattle.std.specs.Prelude.{ℕ, zero, suc, ◌*◌, ◌/◌, List, [], ◌∷◌, ◌++◌, Option, Some, None, length, take, min}
+use Rattle.or_sched.specs.declared.recording.Mark.{Mark}
+use Rattle.or_bus.specs.State.{last_count}
+use Rattle.or_model.specs.World.{World}
+use Rattle.or_model.specs.Turn.{Board, replay}
+
+-- the lengths of the write list and of the console
+abbrev pub mark_of : World → Mark
+mark_of world = record { writes = min (length world.writes) last_count; console = length world.uart.console }
+
+abbrev pub mark_after : Option Board → Mark
+mark_after None = record { writes = 0; console = 0 }
+mark_after (Some board) = mark_of board.world
+
+-- the marks of the first so many blocks
+abbrev pub block_marks : ℕ → Board → List ℕ → ℕ → List Mark
+block_marks block start turns zero = []
+block_marks block start turns (suc n) = block_marks block start turns n ++ mark_after (replay start (take (block * suc n) turns)) ∷ []
+
+-- the marks behind each whole block of 65536 turns
+unfoldable pub marks : Board → List ℕ → List Mark
+marks start turns = block_marks 65536 start turns (length turns / 65536)
