@@ -68,7 +68,6 @@ nothing_more limits (Writes number total) decoded sound e t = let no : false ≡
 nothing_more limits (Console writes number total) decoded sound e t = let no : false ≡ true = e in cc
 nothing_more limits Done decoded sound e t = t.1
 
-
 -- some bytes stand behind a head
 pub block_some : (turns : List ℕ) → 1 ≤ length turns → 1 ≤ length (block_text turns)
 block_some [] some = absurd (omega arith)

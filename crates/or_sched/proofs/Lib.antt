@@ -25,3 +25,4 @@ pub mod BodyReading
 pub mod Ends
 pub mod Faults
 pub mod ReaderLemmas
+pub mod ReaderEnds

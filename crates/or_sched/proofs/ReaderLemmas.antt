@@ -102,7 +102,13 @@ part_of head limits place count bytes turns part marks some read sound turns_fro
     turns_are = turns_front;
     marks_are = marks_front;
   },
-  (bytes, record { rest = []; parts = sym (append-nil bytes) }, body_head head limits place count bytes turns marks read sound, body_lines head limits place count bytes turns marks read sound),
+  record {
+    front = bytes;
+    is_front = record { rest = []; parts = sym (append-nil bytes) };
+    begins = body_begins head limits place count bytes turns marks read sound;
+    head_is = body_head head limits place count bytes turns marks read sound;
+    lines = body_lines head limits place count bytes turns marks read sound;
+  },
 )
 
 pub at_read : (head : Option Head) (state : State) (limits : Limits) (place : Place) (count : ℕ) (bytes turns : List ℕ) (marks : List Mark)
@@ -152,7 +158,13 @@ failed_more head NoMemory bytes more turns marks read = (
     turns_are = read.0.turns_are;
     marks_are = read.0.marks_are;
   },
-  (read.1.0, front_more ℕ read.1.0 bytes more read.1.1, read.1.2, read.1.3),
+  record {
+    front = read.1.front;
+    is_front = front_more ℕ read.1.front bytes more read.1.is_front;
+    begins = read.1.begins;
+    head_is = read.1.head_is;
+    lines = read.1.lines;
+  },
 )
 
 -- a reader that appended nothing
