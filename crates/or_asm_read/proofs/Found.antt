@@ -18,7 +18,8 @@ use Rattle.or_asm_read.specs.declared.operands.Operand.{Operand}
 use Rattle.or_asm_read.specs.Cuts.{trimmed, before, after}
 use Rattle.or_asm_read.specs.Faults.{lesser_fault}
 use Rattle.or_asm_read.specs.Numbers.{are_digits, has_leading_zero, number_of, register_of}
-use Rattle.or_asm_read.specs.Operands.{Labels, place_of, int_le, within, ranged, as_value, register_at, number_at, half_at, half_or, before_bracket, in_brackets, is_bracketed, value_at, offset_of, quarter, jump_at, address_operand, memory_at, slot_at, placed, is_empty, operands_at}
+use Rattle.or_asm_read.specs.Operands.{int_le, within, ranged, as_value, register_at, number_at, half_at, half_or, before_bracket, in_brackets, is_bracketed, value_at, offset_of, quarter, jump_at, address_operand, memory_at, slot_at, placed, is_empty, operands_at}
+use Rattle.or_asm_read.specs.Labels.{Labels, place_of}
 
 abbrev Gives : {X : Type 0} → (X → Type 0) → Result X Fault → Type 0
 Gives P (Ok x) = P x

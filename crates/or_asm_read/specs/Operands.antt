@@ -11,15 +11,8 @@ use Rattle.or_asm_read.specs.declared.fault.Fault.TheVariants.{BadLine, OutOfRan
 use Rattle.or_asm_read.specs.declared.operands.Operand.{Operand}
 use Rattle.or_asm_read.specs.Cuts.{is_label, before, after, has, trimmed}
 use Rattle.or_asm_read.specs.Faults.{lesser_fault}
+use Rattle.or_asm_read.specs.Labels.{Labels, place_of}
 use Rattle.or_asm_read.specs.Numbers.{number_of, register_of}
-
--- labels with their places, the first of a name first
-abbrev pub Labels : Type 0
-Labels = List (List ℕ × ℕ)
-
-abbrev pub place_of : Labels → List ℕ → Option ℕ
-place_of [] name = None
-place_of (label ∷ labels) name = if bytes_eq label.0 name then Some label.1 else place_of labels name
 
 -- what is between the two, or a fault
 abbrev pub int_le : ℤ → ℤ → Bool

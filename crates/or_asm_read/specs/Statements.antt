@@ -14,7 +14,8 @@ use Rattle.or_asm_read.specs.declared.statements.Statement.{Statement}
 use Rattle.or_asm_read.specs.declared.statements.Statement.TheVariants.{Nothing, Place, Word}
 use Rattle.or_asm_read.specs.Cuts.{trimmed, name_part, operands_part}
 use Rattle.or_asm_read.specs.Numbers.{number_of}
-use Rattle.or_asm_read.specs.Operands.{Labels, int_le, is_empty, value_at, operands_at}
+use Rattle.or_asm_read.specs.Operands.{int_le, is_empty, value_at, operands_at}
+use Rattle.or_asm_read.specs.Labels.{Labels}
 
 -- a place that a statement sets is below 10000000 (hexadecimal)
 abbrev pub HasLowPlace : Result Statement Fault → Type 0

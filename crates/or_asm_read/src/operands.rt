@@ -1,41 +1,22 @@
 // The operands of a statement.
-ghost use Rattle.std.specs.Prelude.{◌≡◌, ◌≤◌, ◌<◌, ◌^◌, ◌/◌, ◌%◌, ℕ, ℤ, pos, negsuc, codes, map, Option, Some, None, ◌&&◌};
+ghost use Rattle.std.specs.Prelude.{◌≡◌, ◌≤◌, ◌<◌, ◌^◌, ◌/◌, ◌%◌, ℕ, ℤ, pos, negsuc, codes, Option, Some, None, ◌&&◌};
 ghost use Rattle.std.specs.Str.{bytes_eq};
-ghost use Rattle.or_asm_read.specs.Labels.{label_pair};
-ghost use Rattle.or_asm_read.specs.Operands.{as_value, is_empty, address_operand, place_of, within, ranged, number_at, register_at, before_bracket, in_brackets, is_bracketed, half_at, half_or, value_at, offset_of, quarter, jump_to, jump_at, memory_at, slot_at, placed, none_at, operands_at};
+ghost use Rattle.or_asm_read.specs.Operands.{as_value, is_empty, address_operand, within, ranged, number_at, register_at, before_bracket, in_brackets, is_bracketed, half_at, half_or, value_at, offset_of, quarter, jump_to, jump_at, memory_at, slot_at, placed, none_at, operands_at};
 ghost use Rattle.or_asm_read.specs.Numbers.{number_of, register_of};
 ghost use Rattle.or_asm_read.specs.Cuts.{is_label};
 ghost use Rattle.or_asm_read.specs.Faults.{lesser_fault};
 
 use crate::cuts::{after, before, has, is_label, trim};
 use crate::fault::{Fault, lesser};
+use crate::labels::LabelTable;
 use crate::numbers::{number, register};
 use or_asm_text::operands::{Operands, Slot};
-
-/// A label and its place.
-#[derive(Clone, Copy)]
-pub struct Label<'a> {
-    pub name: &'a [u8],
-    pub place: u32,
-}
 
 /// What an operand says: a register, a number, or both.
 #[derive(Clone, Copy)]
 pub struct Operand {
     pub register: u32,
     pub value: i32,
-}
-
-/// The place of a label.
-pub fn place_of(labels: &[Label], name: &[u8]) -> Option<u32>
-    ensures { result ≡ place_of (map label_pair labels.now) name.now }
-{
-    for label in labels {
-        if label.name == name {
-            return Some(label.place);
-        }
-    }
-    None
 }
 
 fn within(low: i32, high: i32, value: i64) -> Result<Operand, Fault>
@@ -103,11 +84,11 @@ fn is_half_of(name: &[u8], text: &[u8]) -> bool
     is_bracketed(text) && before_bracket(text) == name && is_label(in_brackets(text))
 }
 
-fn high_at(labels: &[Label], text: &[u8]) -> Result<Operand, Fault>
-    ensures { result ≡ half_or (codes "hi") (λ place. place / 65536) (map label_pair labels.now) text.now }
+fn high_at(labels: &LabelTable, text: &[u8]) -> Result<Operand, Fault>
+    ensures { result ≡ half_or (codes "hi") (λ place. place / 65536) labels.now text.now }
 {
     if is_half_of(b"hi", text) {
-        match place_of(labels, in_brackets(text)) {
+        match labels.place_of(in_brackets(text)) {
             Some(place) => within(0, 65535, i64::from(place / 65536)),
             None => Err(Fault::UnknownLabel),
         }
@@ -116,11 +97,11 @@ fn high_at(labels: &[Label], text: &[u8]) -> Result<Operand, Fault>
     }
 }
 
-fn low_at(labels: &[Label], text: &[u8]) -> Result<Operand, Fault>
-    ensures { result ≡ half_or (codes "lo") (λ place. place % 65536) (map label_pair labels.now) text.now }
+fn low_at(labels: &LabelTable, text: &[u8]) -> Result<Operand, Fault>
+    ensures { result ≡ half_or (codes "lo") (λ place. place % 65536) labels.now text.now }
 {
     if is_half_of(b"lo", text) {
-        match place_of(labels, in_brackets(text)) {
+        match labels.place_of(in_brackets(text)) {
             Some(place) => within(0, 65535, i64::from(place % 65536)),
             None => Err(Fault::UnknownLabel),
         }
@@ -131,11 +112,11 @@ fn low_at(labels: &[Label], text: &[u8]) -> Result<Operand, Fault>
 
 /// A label's place, or a number.
 #[tactic(auto, unfolding(crate::specs::Operands::value_at))]
-pub fn value_at(labels: &[Label], text: &[u8]) -> Result<i64, Fault>
-    ensures { result ≡ value_at (map label_pair labels.now) text.now }
+pub fn value_at(labels: &LabelTable, text: &[u8]) -> Result<i64, Fault>
+    ensures { result ≡ value_at labels.now text.now }
 {
     if is_label(text) {
-        match place_of(labels, text) {
+        match labels.place_of(text) {
             Some(place) => Ok(i64::from(place)),
             None => Err(Fault::UnknownLabel),
         }
@@ -173,8 +154,8 @@ fn jump_to(pc: u32, target: i64) -> Result<Operand, Fault>
     )
 }
 
-fn jump_at(labels: &[Label], pc: u32, text: &[u8]) -> Result<Operand, Fault>
-    ensures { result ≡ jump_at pc (value_at (map label_pair labels.now) text.now) }
+fn jump_at(labels: &LabelTable, pc: u32, text: &[u8]) -> Result<Operand, Fault>
+    ensures { result ≡ jump_at pc (value_at labels.now text.now) }
 {
     match value_at(labels, text) {
         Ok(target) => jump_to(pc, target),
@@ -213,8 +194,8 @@ fn memory_at(text: &[u8]) -> Result<Operand, Fault>
 }
 
 #[tactic(auto, unfolding(crate::specs::Operands::slot_at))]
-fn slot_at(labels: &[Label], pc: u32, slot: Slot, text: &[u8]) -> Result<Operand, Fault>
-    ensures { result ≡ slot_at (map label_pair labels.now) pc slot text.now }
+fn slot_at(labels: &LabelTable, pc: u32, slot: Slot, text: &[u8]) -> Result<Operand, Fault>
+    ensures { result ≡ slot_at labels.now pc slot text.now }
 {
     match slot {
         Slot::D => register_at(text),
@@ -275,12 +256,12 @@ fn join(
 
 /// The operands of a statement, parted by commas.
 pub fn operands_at(
-    labels: &[Label],
+    labels: &LabelTable,
     pc: u32,
     slots: &[Slot],
     text: &[u8],
 ) -> Result<Operands, Fault>
-    ensures { result ≡ operands_at (map label_pair labels.now) pc slots.now text.now }
+    ensures { result ≡ operands_at labels.now pc slots.now text.now }
 {
     match slots.split_first() {
         None => {

@@ -1,7 +1,6 @@
 // What a statement does.
-ghost use Rattle.std.specs.Prelude.{◌≡◌, ◌≤ℤ◌, map, pos, negsuc};
+ghost use Rattle.std.specs.Prelude.{◌≡◌, ◌≤ℤ◌, pos, negsuc};
 ghost use Rattle.std.specs.Int.{cast_unsigned, w32};
-ghost use Rattle.or_asm_read.specs.Labels.{label_pair};
 ghost use Rattle.or_asm_read.specs.Numbers.{number_of};
 ghost use Rattle.or_asm_read.specs.Operands.{value_at, operands_at};
 ghost use Rattle.or_asm_read.specs.Statements.{org_at, word_at, insn_at, made_of, named_at, statement_at, HasLowPlace};
@@ -10,8 +9,9 @@ ghost use Rattle.or_asm_text.specs.Slots.{slots_of};
 
 use crate::cuts::{name, operands, trim};
 use crate::fault::Fault;
+use crate::labels::LabelTable;
 use crate::numbers::number;
-use crate::operands::{Label, is_empty, operands_at, value_at};
+use crate::operands::{is_empty, operands_at, value_at};
 use or_asm_text::mnemonic::{Mnemonic, mnemonic_named};
 use or_asm_text::operands::{insn, slots};
 use or_isa::encode;
@@ -53,8 +53,8 @@ fn low_word(value: i64) -> u32
     }
 }
 
-fn word_at(labels: &[Label], text: &[u8]) -> Result<Statement, Fault>
-    ensures is { result ≡ word_at (value_at (map label_pair labels.now) text.now) }
+fn word_at(labels: &LabelTable, text: &[u8]) -> Result<Statement, Fault>
+    ensures is { result ≡ word_at (value_at labels.now text.now) }
     ensures low { HasLowPlace result }
 {
     match value_at(labels, text) {
@@ -70,8 +70,8 @@ fn word_at(labels: &[Label], text: &[u8]) -> Result<Statement, Fault>
 }
 
 #[tactic(auto, using(crate::proofs::Found::made_fits))]
-fn insn_at(labels: &[Label], pc: u32, mnemonic: Mnemonic, text: &[u8]) -> Result<Statement, Fault>
-    ensures is { result ≡ made_of mnemonic (operands_at (map label_pair labels.now) pc (slots_of mnemonic) text.now) }
+fn insn_at(labels: &LabelTable, pc: u32, mnemonic: Mnemonic, text: &[u8]) -> Result<Statement, Fault>
+    ensures is { result ≡ made_of mnemonic (operands_at labels.now pc (slots_of mnemonic) text.now) }
     ensures low { HasLowPlace result }
 {
     match operands_at(labels, pc, slots(mnemonic), text) {
@@ -80,8 +80,8 @@ fn insn_at(labels: &[Label], pc: u32, mnemonic: Mnemonic, text: &[u8]) -> Result
     }
 }
 
-fn instruction_at(labels: &[Label], pc: u32, name: &[u8], text: &[u8]) -> Result<Statement, Fault>
-    ensures is { result ≡ insn_at (map label_pair labels.now) pc (mnemonic_named name.now) text.now }
+fn instruction_at(labels: &LabelTable, pc: u32, name: &[u8], text: &[u8]) -> Result<Statement, Fault>
+    ensures is { result ≡ insn_at labels.now pc (mnemonic_named name.now) text.now }
     ensures low { HasLowPlace result }
 {
     match mnemonic_named(name) {
@@ -91,8 +91,8 @@ fn instruction_at(labels: &[Label], pc: u32, name: &[u8], text: &[u8]) -> Result
 }
 
 #[tactic(auto, unfolding(crate::specs::Statements::named_at))]
-fn named_at(labels: &[Label], pc: u32, name: &[u8], text: &[u8]) -> Result<Statement, Fault>
-    ensures is { result ≡ named_at (map label_pair labels.now) pc name.now text.now }
+fn named_at(labels: &LabelTable, pc: u32, name: &[u8], text: &[u8]) -> Result<Statement, Fault>
+    ensures is { result ≡ named_at labels.now pc name.now text.now }
     ensures low { HasLowPlace result }
 {
     if name == b".org".as_slice() {
@@ -106,8 +106,8 @@ fn named_at(labels: &[Label], pc: u32, name: &[u8], text: &[u8]) -> Result<State
 
 /// What a statement does, or its least fault.
 #[tactic(auto, unfolding(crate::specs::Statements::statement_at))]
-pub fn statement_at(labels: &[Label], pc: u32, statement: &[u8]) -> Result<Statement, Fault>
-    ensures is { result ≡ statement_at (map label_pair labels.now) pc statement.now }
+pub fn statement_at(labels: &LabelTable, pc: u32, statement: &[u8]) -> Result<Statement, Fault>
+    ensures is { result ≡ statement_at labels.now pc statement.now }
     ensures low { HasLowPlace result }
 {
     if is_empty(statement) {
