@@ -129,7 +129,7 @@ module _ (head : Option Head) (limits : Limits) (place : Place) (count : ℕ) (b
   limits_are = subst AreLimits (sym read.is_limits) (are_limits read.known (fits_of read.known read.front read.heading))
 
   -- what goes on from the place is a recording's
-  whole_of : (rest : List ℕ) (others : List Item) → Completes limits place rest others
+  pub whole_of : (rest : List ℕ) (others : List Item) → Completes limits place rest others
       → IsRecording (bytes ++ rest) (head_of read.known) (turns_of (read.decoded ++ others)) (marks_of (read.decoded ++ others))
   whole_of rest others c =
       let text : Completes limits (first_of read.known) (read.body ++ rest) (read.decoded ++ others) = read.reached.back rest others c in
@@ -163,7 +163,7 @@ module _ (head : Option Head) (limits : Limits) (place : Place) (count : ℕ) (b
   goes_on2 rest other all all_marks is =
       behind2 read.known read.front (read.body ++ rest) other all all_marks read.heading (subst (λ t. IsRecording2 t other all all_marks) (moved rest) is)
 
-  on_from : (rest : List ℕ) (items : List Item) → Completes (limits_of read.known) (first_of read.known) (read.body ++ rest) items
+  pub on_from : (rest : List ℕ) (items : List Item) → Completes (limits_of read.known) (first_of read.known) (read.body ++ rest) items
       → (others : List Item) × (items ≡ read.decoded ++ others) × Completes limits place rest others
   on_from rest items c =
       read.reached.keeps rest items (subst (λ l. Completes l (first_of read.known) (read.body ++ rest) items) (sym read.is_limits) c)

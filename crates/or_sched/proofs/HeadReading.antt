@@ -161,7 +161,7 @@ module _ (final : Known) (end : List ℕ) where
   within_literal Image known rest c = within_image known [] rest c
   within_literal Input known rest c = within_input known [] rest c
 
-  within_place : (known : Known) (place : HeadPlace) (rest : List ℕ) → HeadCompletes final end known place rest → length end ≤ length rest
+  pub within_place : (known : Known) (place : HeadPlace) (rest : List ℕ) → HeadCompletes final end known place rest → length end ≤ length rest
   within_place known (Text literal seen) rest c =
       omega (arith, within_text _ (literal_bytes literal) seen rest c, within_literal literal known c.more c.follows)
   within_place known Version rest c = within_version known rest c

@@ -22,3 +22,7 @@ pub mod HeadWitness
 pub mod Wholes
 pub mod HeadReading
 pub mod BodyReading
+pub mod Ends
+pub mod Faults
+pub mod ReaderLemmas
+pub mod ReaderEnds

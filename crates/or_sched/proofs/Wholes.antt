@@ -278,5 +278,5 @@ recording_of known front text decoded read completes = go (head_text_of known fr
         let b : IsBody2 (limits_of known).cores (limits_of known).turns (limits_of known).block text (turns_of decoded) (marks_of decoded) =
         body2_from (limits_of known) text decoded (are_limits known fits) c in
         inr (recorded2 known (front ++ text) (turns_of decoded) (marks_of decoded) two
-            (subst (λ t. IsHeadText known t (front ++ text)) b.text (head_text_of known front text read)) (schedule_of known (turns_of decoded) b.some b.few b.are)
-            (record { whole_blocks = omega (arith, b.whole, b.part); numbers = b.numbers }))
+        (subst (λ t. IsHeadText known t (front ++ text)) b.text (head_text_of known front text read)) (schedule_of known (turns_of decoded) b.some b.few b.are)
+        (record { whole_blocks = omega (arith, b.whole, b.part); numbers = b.numbers }))

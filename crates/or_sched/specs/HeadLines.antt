@@ -36,4 +36,3 @@ pub record KnownFits (known : Known) : Type 0 where
 pub record IsHeadText (final : Known) (end rest : List ℕ) : Type 0 where
   pub text : rest ≡ known_text final end
   pub fits : KnownFits final
-

@@ -123,12 +123,20 @@ FailedRead (BadRun at) bytes turns marks = FaultRead (BadRun at) bytes turns mar
 FailedRead Short bytes turns marks = ⊥
 FailedRead NoMemory bytes turns marks = PartRead bytes turns marks
 
--- the bytes that count for the head: those before the fault, or all
+-- the head of a beginning of these bytes, where its fourth line has ended
+pub record BehindHead (head : Option Head) (bytes : List ℕ) : Type 0 where
+  pub front : List ℕ
+  pub is_front : IsFront front bytes
+  pub begins : Begins front
+  pub head_is : HeadIs head front
+  pub lines : 4 ≤ line_feeds front
+
+-- the head that is kept: that of the bytes before the fault
 abbrev pub FailedHead : RecFault → Option Head → List ℕ → Type 0
 FailedHead (BadHead line) head bytes = (place : ℕ) → FaultAt bytes place → HeadIs head (take place bytes)
 FailedHead (BadRun at) head bytes = (place : ℕ) → FaultAt bytes place → HeadIs head (take place bytes)
 FailedHead Short head bytes = ⊥
-FailedHead NoMemory head bytes = (front : List ℕ) × IsFront front bytes × HeadIs head front × (4 ≤ line_feeds front)
+FailedHead NoMemory head bytes = BehindHead head bytes
 
 abbrev pub StateRead : Option Head → State → List ℕ → List ℕ → List Mark → Type 0
 StateRead head (HeadState heading) bytes turns marks = HeadingRead head heading bytes turns marks
@@ -161,3 +169,53 @@ IsReading (Failed fault) = ⊥
 abbrev pub AnswerIs : Reader → Result (Unit {0}) RecFault → Type 0
 AnswerIs new (Ok done) = IsReading new.state
 AnswerIs new (Err fault) = HasFailed new fault
+
+-- what the reader made of a byte in the head
+abbrev pub HeadFed : Reader → Reader → ℕ → Type 0
+HeadFed old new byte = (front before : List ℕ) (marks : List Mark) → HasRead old front before marks → HasRead new (front ++ byte ∷ []) before marks
+
+-- what is told where a piece was read to its end: some recording begins with all bytes, and these turns and marks are those
+-- of the runs and of the mark lines that have ended in them
+pub record ReadAll (bytes turns : List ℕ) (marks : List Mark) : Type 0 where
+  pub begins : Begins bytes
+  pub ended : Ended bytes turns marks
+
+-- what a feed tells of all bytes that were fed so far
+abbrev pub Tells : Reader → Result ℕ RecFault → List ℕ → List ℕ → Type 0
+Tells new (Ok count) out_old out_new =
+    (length out_new ≡ length out_old + count)
+    × ((bytes turns : List ℕ) (marks : List Mark) → HasRead new bytes turns marks → ReadAll bytes turns marks)
+Tells new (Err fault) out_old out_new =
+    HasFailed new fault
+    × ((bytes turns : List ℕ) (marks : List Mark) → HasRead new bytes turns marks → FailedRead fault bytes turns marks)
+
+-- the fault of an earlier call is answered again, and nothing changes
+pub record Stays (old new : Reader) (out_old out_new : List ℕ) (marks_old marks_new : List Mark) : Type 0 where
+  pub reader : new ≡ old
+  pub out : out_new ≡ out_old
+  pub marks : marks_new ≡ marks_old
+
+abbrev pub StaysFailed : Reader → Reader → List ℕ → List ℕ → List Mark → List Mark → Result ℕ RecFault → Type 0
+StaysFailed old new out_old out_new marks_old marks_new result =
+    (fault : RecFault) → HasFailed old fault → (result ≡ Err fault) × Stays old new out_old out_new marks_old marks_new
+
+-- the bytes are a recording of these turns and marks, with this head, and no other
+pub record IsWhole (head : Option Head) (bytes turns : List ℕ) (marks : List Mark) : Type 0 where
+  pub the_head : Head
+  pub head_is : head ≡ Some the_head
+  pub is : IsRecording bytes the_head turns marks
+  pub only : (other : Head) (others : List ℕ) (other_marks : List Mark) → IsRecording bytes other others other_marks
+      → (other ≡ the_head) × (others ≡ turns) × (other_marks ≡ marks)
+
+-- the bytes are the beginning of a recording, and none themselves
+pub record IsShort (bytes : List ℕ) : Type 0 where
+  pub begins : Begins bytes
+  pub none : (head : Head) (turns : List ℕ) (marks : List Mark) → IsRecording bytes head turns marks → ⊥
+
+-- the answer at the end of the bytes
+abbrev pub FinishIs : Reader → List ℕ → List ℕ → List Mark → Result (Unit {0}) RecFault → Type 0
+FinishIs reader bytes turns marks (Ok done) = IsWhole reader.head bytes turns marks
+FinishIs reader bytes turns marks (Err (BadHead line)) = HasFailed reader (BadHead line) × FailedRead (BadHead line) bytes turns marks
+FinishIs reader bytes turns marks (Err (BadRun at)) = HasFailed reader (BadRun at) × FailedRead (BadRun at) bytes turns marks
+FinishIs reader bytes turns marks (Err Short) = IsShort bytes
+FinishIs reader bytes turns marks (Err NoMemory) = HasFailed reader NoMemory

@@ -73,3 +73,10 @@ pub record Ended (front : List ℕ) (turns : List ℕ) (marks : List Mark) : Typ
       → AreEnded (length front - length (head_text1 head)) (map run_item (runs all)) turns marks
   pub version2 : (rest : List ℕ) (head : Head) (all : List ℕ) (all_marks : List Mark) → IsRecording2 (front ++ rest) head all all_marks
       → AreEnded (length front - length (head_text2 head)) (blocks_items 65536 all_marks all) turns marks
+
+-- the longest beginning of these bytes with which some recording begins
+pub record IsReadable (bytes front : List ℕ) : Type 0 where
+  pub rest : List ℕ
+  pub parts : bytes ≡ front ++ rest
+  pub begins : Begins front
+  pub longest : (rest ≡ []) ⊎ FaultAt bytes (length front)

@@ -1,10 +1,12 @@
 // A reader of recordings, of both versions, in pieces of any lengths.
-ghost use Rattle.std.specs.Prelude.{◌≡◌, ◌+◌, ◌%◌, ◌^◌, ◌++◌, ◌∷◌, ◌*◌, [], OnOk, replicate, min, Some, None, length, List, ℕ};
+ghost use Rattle.std.specs.Prelude.{◌≡◌, ◌+◌, ◌%◌, ◌^◌, ◌++◌, ◌∷◌, ◌*◌, [], replicate, List, ℕ, MatchResult, MatchOption};
+ghost use Rattle.or_sched.specs.declared.recording.Mark.{Mark};
+ghost use Rattle.or_sched.specs.declared.recording.RecFault.{RecFault};
+ghost use Rattle.or_sched.specs.declared.state.State.{State};
 ghost use Rattle.or_sched.specs.HeadPlaces.{HasSettings};
 ghost use Rattle.or_sched.specs.Places.{ends_at, IsSound};
-ghost use Rattle.or_sched.specs.Reading.{limits_of, first_of, first_block_of, IsAt};
-ghost use Rattle.or_sched.specs.declared.state.State.{State};
-ghost use Rattle.or_sched.specs.declared.places.Place.{Place};
+ghost use Rattle.or_sched.specs.Recording.{IsReadable};
+ghost use Rattle.or_sched.specs.Reading.{limits_of, first_of, first_block_of, IsAt, IsFront, HasRead, HasFailed, HeadIs, HeadFed, Fed, AnswerIs, IsReading, Tells, Stays, StaysFailed, FinishIs};
 
 use crate::head::{HeadPlace, HeadStep, Known, Literal, head_step, line};
 use crate::places::{Block, Limits, Place, Step};
@@ -25,7 +27,9 @@ pub struct Reader {
 
 impl Reader {
     /// A reader of which no byte was asked yet.
-    pub fn new() -> Reader {
+    pub fn new() -> Reader
+        ensures { HasRead result [] [] [] }
+    {
         Reader {
             head: None,
             state: State::Head(Heading {
@@ -37,12 +41,18 @@ impl Reader {
     }
 
     /// The head, where its fourth line has ended.
-    pub fn head(&self) -> Option<Head> {
+    pub fn head(&self) -> Option<Head>
+        // It is that of each recording that begins as the bytes do, up to a fault.
+        ensures { (bytes turns front : List ℕ) (marks : List Mark) → HasRead self.now bytes turns marks → IsReadable bytes front → HeadIs result front }
+    {
         self.head
     }
 
     /// Whether the bytes that were fed are a recording.
-    pub fn finish(&self) -> Result<(), RecFault> {
+    pub fn finish(&self) -> Result<(), RecFault>
+        ensures exact { (bytes turns : List ℕ) (marks : List Mark) → HasRead self.now bytes turns marks → FinishIs self.now bytes turns marks result }
+        ensures failed { (fault : RecFault) → HasFailed self.now fault → result ≡ Err fault }
+    {
         match self.state {
             State::Head(_) => Err(RecFault::Short),
             State::Body(body) => {
@@ -63,7 +73,11 @@ impl Reader {
         piece: &[u8],
         out: &mut Vec<u8>,
         marks: &mut Vec<Mark>,
-    ) -> Result<usize, RecFault> {
+    ) -> Result<usize, RecFault>
+        ensures fed { Fed self.old self.new piece.now out.old.items out.new.items marks.old.items marks.new.items }
+        ensures exact { Tells self.new result out.old.items out.new.items }
+        ensures failed { StaysFailed self.old self.new out.old.items out.new.items marks.old.items marks.new.items result }
+    {
         let before = out.len();
         match self.read_piece(piece, out, marks) {
             Ok(()) => Ok(out.len() - before),
@@ -76,10 +90,14 @@ impl Reader {
         piece: &[u8],
         out: &mut Vec<u8>,
         marks: &mut Vec<Mark>,
-    ) -> Result<(), RecFault> {
-        match self.state {
-            State::Failed(fault) => return Err(fault),
-            _ => {}
+    ) -> Result<(), RecFault>
+        ensures fed { Fed self.old self.new piece.now out.old.items out.new.items marks.old.items marks.new.items }
+        ensures answer { AnswerIs self.new result }
+        ensures failed { (fault : RecFault) → HasFailed self.old fault → Stays self.old self.new out.old.items out.new.items marks.old.items marks.new.items }
+    {
+        match self.failure() {
+            Some(fault) => return Err(fault),
+            None => {}
         }
         for byte in piece {
             match self.read(*byte, out, marks) {
@@ -90,7 +108,20 @@ impl Reader {
         Ok(())
     }
 
-    fn read(&mut self, byte: u8, out: &mut Vec<u8>, marks: &mut Vec<Mark>) -> Result<(), RecFault> {
+    // The fault that was answered.
+    fn failure(&self) -> Option<RecFault>
+        ensures { MatchOption result (IsReading self.now.state) (λ fault. HasFailed self.now fault) }
+    {
+        match self.state {
+            State::Failed(fault) => Some(fault),
+            _ => None,
+        }
+    }
+
+    fn read(&mut self, byte: u8, out: &mut Vec<u8>, marks: &mut Vec<Mark>) -> Result<(), RecFault>
+        ensures fed { Fed self.old self.new (byte ∷ []) out.old.items out.new.items marks.old.items marks.new.items }
+        ensures answer { AnswerIs self.new result }
+    {
         match self.state {
             State::Head(heading) => self.read_head(heading, byte),
             State::Body(body) => self.read_body(body, byte, out, marks),
@@ -98,7 +129,11 @@ impl Reader {
         }
     }
 
-    fn read_head(&mut self, heading: Heading, byte: u8) -> Result<(), RecFault> {
+    fn read_head(&mut self, heading: Heading, byte: u8) -> Result<(), RecFault>
+        requires { self.old.state ≡ State.Head heading }
+        ensures fed { HeadFed self.old self.new byte }
+        ensures answer { AnswerIs self.new result }
+    {
         let count = next_count(heading.count);
         match head_step(heading.known, heading.place, byte) {
             HeadStep::Refused => self.fail(RecFault::BadHead {
@@ -126,7 +161,11 @@ impl Reader {
         byte: u8,
         out: &mut Vec<u8>,
         marks: &mut Vec<Mark>,
-    ) -> Result<(), RecFault> {
+    ) -> Result<(), RecFault>
+        requires { self.old.state ≡ State.Body body }
+        ensures fed { Fed self.old self.new (byte ∷ []) out.old.items out.new.items marks.old.items marks.new.items }
+        ensures answer { AnswerIs self.new result }
+    {
         match step(&body.limits, body.place, byte) {
             Step::Refused => self.fail(RecFault::BadRun { at: body.count }),
             Step::Goes(next) => {
@@ -232,19 +271,23 @@ fn next_count(count: u64) -> u64
 }
 
 fn push_mark(mark: Mark, marks: &mut Vec<Mark>) -> Result<(), AllocError>
-    ensures { OnOk result (marks.new.items ≡ marks.old.items ++ mark ∷ []) }
+    ensures { MatchResult result (λ _. marks.new.items ≡ marks.old.items ++ mark ∷ []) (λ _. marks.new.items ≡ marks.old.items) }
 {
     marks.push(mark)?;
     Ok(())
 }
 
-#[tactic(auto, using(crate::proofs::Pushes::push_equal, crate::proofs::Pushes::pushed_all_le))]
+// Where memory runs out, a part of the turns is appended.
 fn push_run(core: u8, turns: u64, out: &mut Vec<u8>) -> Result<(), AllocError>
-    ensures { OnOk result (out.new.items ≡ out.old.items ++ replicate turns core) }
+    ensures { MatchResult result (λ _. out.new.items ≡ out.old.items ++ replicate turns core)
+        (λ _. (part : List ℕ) × (out.new.items ≡ out.old.items ++ part) × IsFront part (replicate turns core)) }
 {
     let mut left = turns;
     while left > 0 {
-        out.push(core)?;
+        match out.push(core) {
+            Ok(()) => {}
+            Err(_) => return Err(AllocError),
+        }
         left -= 1;
     }
     Ok(())
