@@ -1,3 +1,4 @@
 pub mod Loaded
 pub mod Run
+pub mod Finish
 pub mod Top

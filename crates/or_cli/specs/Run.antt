@@ -45,3 +45,13 @@ pub record RunWrites (names : Names) (config : Config) (files : List (List ℕ))
   pub report : List ℕ
   pub is_run : IsRun config (image_in files) (input_in files) recording report console
   pub outputs : outs ≡ record { name = names.schedule; text = recording } ∷ record { name = names.report; text = report } ∷ []
+
+-- the same of a run whose start and head are given
+pub record IsRunFrom (first : Board) (head : Head) (recording report console : List ℕ) : Type 0 where
+  pub schedule : List ℕ
+  pub last : Board
+  pub replayed : replay first schedule ≡ Some last
+  pub stopped : all_stopped last.cores ≡ true
+  pub recorded : recording ≡ rec_text2 head schedule (marks first schedule)
+  pub reported : report ≡ report_text last (length schedule)
+  pub shown : console ≡ last.world.uart.console

@@ -26,3 +26,10 @@ pub record RunEnds (names : Names) (config : Config) (status : ℕ) (old new : H
 abbrev pub RunComplete : Names → Config → ℕ → HostState → HostState → Type 0
 RunComplete names config status old new = (files : List (List ℕ)) → AllTold (run_loads names) files new → ¬ Rose old.faults new.faults
     → (status ≡ status_of (end_of_files (run_loads names) (run_check names config) (RunWrites names config) LeavesAll files)) ⊎ (status ≡ 7)
+
+-- what stands after a command with this status
+abbrev pub CommandEnds : Shown → ℕ → HostState → HostState → Type 0
+CommandEnds (run names config) status old new = RunEnds names config status old new
+
+abbrev pub IsComplete : Shown → ℕ → HostState → HostState → Type 0
+IsComplete (run names config) status old new = RunComplete names config status old new

@@ -1,20 +1,25 @@
 //! The command `run`.
-ghost use Rattle.std.specs.Prelude.{◌≡◌, ◌≤◌, None, Some, IfOk, MatchResult, length};
+ghost use Rattle.std.specs.Prelude.{◌≡◌, ◌≤◌, [], ◌∷◌, None, Some, IfOk, MatchResult, length};
+ghost use Rattle.or_sched.specs.Schedule.{IsSchedule, AreMarks};
+ghost use Rattle.or_model.specs.Turn.{Board as BoardModel};
+ghost use Rattle.or_replay.specs.Rounds.{IsFinished};
 ghost use Rattle.or_words.specs.Settings.{Fits, ram_bytes};
 ghost use Rattle.or_elf.specs.Fault.{elf_fault};
 ghost use Rattle.or_command_line.specs.Command.{run_names, AreWritten};
 ghost use Rattle.or_command.specs.Leaves.{Silent};
 ghost use Rattle.or_command.specs.Ends.{end_of};
 ghost use Rattle.or_command.specs.Outcomes.{CommandOutcome, LeavesAll};
-ghost use Rattle.or_cli.specs.Run.{run_loads, run_check, head_of, IsRun, RunWrites};
+ghost use Rattle.or_command.specs.Loads.{bytes_of};
+ghost use Rattle.or_cli.specs.Loaded.{image_in as image_of};
+ghost use Rattle.or_cli.specs.Run.{run_loads, run_check, head_of, IsRun, IsRunFrom, RunWrites};
+ghost use Rattle.or_cli.specs.Finish.{WriteEnds, FinishEnds};
 ghost use Rattle.or_replay.specs.Opening.{FailsToOpen};
 
 use crate::loaded::{image_in, input_in, load_image};
 use or_command::{LoadStop, Outcome, Output, Refusal, write_outputs};
 use or_command_line::Run;
-use or_elf::ElfFault;
 use or_host::Host;
-use or_replay::{Board, Finished, OpenFault, report, run_rounds};
+use or_replay::{Finished, OpenFault, report, run_rounds};
 use or_sched::Head;
 use or_words::{Config, NoMemory};
 use sha2::{Digest, Sha256};
@@ -39,6 +44,36 @@ fn head(config: &Config, image: &[u8], input: &[u8]) -> Head
     }
 }
 
+// The texts of a run that has come to its end.
+#[tactic(auto, using(crate::proofs::Runs::runs))]
+fn texts(
+    alloc: Global,
+    head: &Head,
+    finished: Finished,
+) -> Result<RunTexts, NoMemory>
+    requires fits { Fits head.now.config }
+    requires schedule { IsSchedule head.now.config finished.schedule.items }
+    requires marks { AreMarks finished.schedule.items finished.marks.items }
+    ensures { IfOk result (λ texts. (start : BoardModel) → IsFinished start finished
+        → IsRunFrom start head.now texts.recording.items texts.report.items texts.console.items) }
+{
+    let Finished {
+        board,
+        schedule,
+        marks,
+    } = finished;
+    let mut recording = Vec::new(alloc);
+    or_sched::write(head, &schedule, &marks, &mut recording)?;
+    let (cores, bus) = board.into_parts();
+    let mut text = Vec::new(alloc);
+    let console = report(alloc, cores.as_slice(), bus, schedule.len() as u64, &mut text)?;
+    Ok(RunTexts {
+        recording,
+        report: text,
+        console,
+    })
+}
+
 // Runs the image with the input, and makes the texts.
 fn make(
     alloc: Global,
@@ -56,11 +91,75 @@ fn make(
         Ok(bytes) => bytes,
         Err(_) => return Err(OpenFault::NoMemory),
     };
-    match Board::open(alloc, config, image, bytes) {
-        Ok(board) => match texts(alloc, config, image, input, board) {
+    let head = head(config, image, input);
+    match run_rounds(alloc, config, image, bytes) {
+        Ok(finished) => match texts(alloc, &head, finished) {
             Ok(texts) => Ok(texts),
             Err(_) => Err(OpenFault::NoMemory),
         },
         Err(fault) => Err(fault),
+    }
+}
+
+// How a run on files that were loaded ends.
+fn finish<'a, H: Host>(
+    alloc: Global,
+    words: &Run<'a>,
+    files: &[Vec<u8>],
+    host: &mut H,
+) -> Outcome<'a>
+    requires names { AreWritten (run_names words.now) }
+    requires fits { Fits words.now.config }
+    requires limit { length (image_of (bytes_of files.now)) ≤ 67108864 }
+    ensures outcome { FinishEnds (run_names words.now) words.now.config (bytes_of files.now) (end_of result) (H.state host.old) (H.state host.new) }
+    ensures silent { Silent (H.state host.old) (H.state host.new) }
+{
+    match make(alloc, &words.config, image_in(files), input_in(files)) {
+        Ok(texts) => write(words, &texts, host),
+        Err(OpenFault::NoMemory) => Outcome::NoMemory,
+        Err(OpenFault::Elf(fault)) => Outcome::Refused(Refusal::Image {
+            name: words.image,
+            fault: fault.number(),
+            place: u64::from(fault.place()),
+        }),
+    }
+}
+
+// Writes the texts.
+fn write<'a, H: Host>(words: &Run<'a>, texts: &RunTexts, host: &mut H) -> Outcome<'a>
+    requires names { AreWritten (run_names words.now) }
+    ensures outcome { WriteEnds (record { name = words.now.schedule.now; text = texts.now.recording.items } ∷ record { name = words.now.report.now; text = texts.now.report.items } ∷ [])
+        texts.now.console.items (end_of result) (H.state host.old) (H.state host.new) }
+    ensures silent { Silent (H.state host.old) (H.state host.new) }
+{
+    let recording = Output {
+        name: words.schedule,
+        text: texts.recording.as_slice(),
+    };
+    let report = Output {
+        name: words.report,
+        text: texts.report.as_slice(),
+    };
+    match write_outputs(host, &[recording, report], texts.console.as_slice()) {
+        Ok(()) => Outcome::Done,
+        Err(name) => Outcome::Unwritten(name),
+    }
+}
+
+/// Runs an image: loads it and the input, runs all cores until they have stopped, and writes the recording, the report and
+/// the console.
+pub(crate) fn run<'a, H: Host>(alloc: Global, words: &Run<'a>, host: &mut H) -> Outcome<'a>
+    requires names { AreWritten (run_names words.now) }
+    requires fits { Fits words.now.config }
+    ensures outcome { CommandOutcome (run_loads (run_names words.now)) (run_check (run_names words.now) words.now.config) (RunWrites (run_names words.now) words.now.config) LeavesAll
+        (end_of result) (H.state host.old) (H.state host.new) }
+    ensures silent { Silent (H.state host.old) (H.state host.new) }
+{
+    let mut files = Vec::new(alloc);
+    match load_image(alloc, host, words.image, words.input, &mut files) {
+        Ok(()) => finish(alloc, words, files.as_slice(), host),
+        Err(LoadStop::Unread(name)) => Outcome::Unread(name),
+        Err(LoadStop::TooLong(name, limit)) => Outcome::TooLong(name, limit),
+        Err(LoadStop::NoMemory) => Outcome::NoMemory,
     }
 }

@@ -1,7 +1,8 @@
 //! The top call.
-ghost use Rattle.std.specs.Prelude.{◌≡◌, ◌↔◌, ◌⊎◌, None, Some, IfSome};
+ghost use Rattle.std.specs.Prelude.{◌≡◌, ◌↔◌, ◌⊎◌, ℕ, None, IfSome};
 ghost use Rattle.or_command_line.specs.Words.{texts};
 ghost use Rattle.or_command_line.specs.Command.{command_of};
+ghost use Rattle.or_command_line.specs.Command.Shown.{run, replay};
 ghost use Rattle.or_cli.specs.Top.{IsUsage, CommandEnds, IsComplete};
 
 use crate::run::run;
@@ -9,3 +10,24 @@ use or_command::{conclude, say_usage};
 use or_command_line::{Command, parse};
 use or_host::Host;
 use std::alloc::Global;
+
+/// Does what the words ask of the outside, and answers the status: 0 where all was done, 2 where the words are no command,
+/// 3 where the image has a fault, 5 where a file was not read, 6 where an output was not written, 7 for want of memory,
+/// 8 where a file is too long. The line of a status other than 0 is said.
+pub fn top<H: Host>(alloc: Global, words: &[String], host: &mut H) -> u8
+    ensures usage { (result ≡ 2) ↔ (command_of (texts words.now) ≡ None) }
+    ensures usage_line { command_of (texts words.now) ≡ None → IsUsage (H.state host.old) (H.state host.new) }
+    ensures command { IfSome (command_of (texts words.now)) (λ command. CommandEnds command result (H.state host.old) (H.state host.new)) }
+    ensures complete { IfSome (command_of (texts words.now)) (λ command. IsComplete command result (H.state host.old) (H.state host.new)) }
+{
+    match parse(words) {
+        None => {
+            say_usage(host);
+            2
+        }
+        Some(Command::Run(words)) => {
+            let outcome = run(alloc, &words, host);
+            conclude(host, outcome)
+        }
+    }
+}
