@@ -1,3 +1,4 @@
 pub mod Aligned
 pub mod Begins
 pub mod Pages
+pub mod Progress

@@ -1,6 +1,6 @@
 //! What a core keeps, with its small changes.
 
-ghost use Rattle.std.specs.Prelude.{◌≡◌, ◌≤◌, ◌<◌, None};
+ghost use Rattle.std.specs.Prelude.{◌≡◌, ◌+◌, ◌≤◌, ◌<◌, None};
 ghost use Rattle.or_words.specs.Settings.{Fits};
 ghost use Rattle.or_parts.specs.Bits.{has};
 ghost use Rattle.or_model.specs.Core.{register, set_register, reset_core, exception_entry, exception_return, next_instruction, branched};
@@ -273,6 +273,7 @@ impl Core {
         requires { self.old.steps < self.old.budget }
         ensures state { self.new ≡ with_step_counted self.old }
         ensures settings { SameSettings self.old self.new }
+        ensures steps { self.new.steps ≡ self.old.steps + 1 }
     {
         self.steps += 1;
         if self.steps == self.budget && self.stop.is_none() {
@@ -287,6 +288,7 @@ impl Core {
         requires { self.old.steps < self.old.budget }
         ensures state { self.new ≡ retired self.old }
         ensures settings { SameSettings self.old self.new }
+        ensures steps { self.new.steps ≡ self.old.steps + 1 }
     {
         self.tick.retire();
         self.count_step();

@@ -1,6 +1,6 @@
 //! One step of a core.
 
-ghost use Rattle.std.specs.Prelude.{◌≡◌, ◌<◌, ◌%◌, MatchResult, OnErr, Ok, Err, None};
+ghost use Rattle.std.specs.Prelude.{◌≡◌, ◌+◌, ◌<◌, ◌%◌, MatchResult, OnErr, Ok, Err, None};
 ghost use Rattle.std.specs.Option.{ForSome};
 ghost use Rattle.or_isa.specs.Fits.{Fits};
 ghost use Rattle.or_parts.specs.Bits.{plus, immediate};
@@ -98,6 +98,7 @@ impl Core {
         requires { self.old.steps < self.old.budget }
         ensures state { self.new ≡ with_step_counted (exception_entry self.old cause) }
         ensures settings { SameSettings self.old self.new }
+        ensures steps { self.new.steps ≡ self.old.steps + 1 }
     {
         self.enter(cause);
         self.count_step();
@@ -131,6 +132,7 @@ impl Core {
         requires room { self.old.steps < self.old.budget }
         ensures state { self.new ≡ step_off_bus self.old insn }
         ensures settings { SameSettings self.old self.new }
+        ensures steps { self.new.steps ≡ self.old.steps + 1 }
     {
         match self.attempt(insn) {
             Ok(()) => self.retire(),
@@ -246,6 +248,7 @@ impl Core {
         requires spare { 0 < bus.old.spare }
         ensures state { (world : World) → Represents bus.old world → IsState (step_on_bus self.old world insn) self.new bus.new }
         ensures settings { SameSettings self.old self.new }
+        ensures steps { self.new.steps ≡ self.old.steps + 1 }
         ensures bus { KeepsBus bus.old bus.new }
     {
         match self.attempt_on_bus(bus, insn) {
@@ -262,6 +265,7 @@ impl Core {
         requires spare { 0 < bus.old.spare }
         ensures state { (world : World) → Represents bus.old world → IsState (step_by_word self.old world word) self.new bus.new }
         ensures settings { SameSettings self.old self.new }
+        ensures steps { self.new.steps ≡ self.old.steps + 1 }
         ensures bus { KeepsBus bus.old bus.new }
     {
         match decode(word) {
@@ -285,6 +289,7 @@ impl Core {
         requires spare { 0 < bus.old.spare }
         ensures state { (world : World) → Represents bus.old world → IsState (step_unheld self.old world pa cached) self.new bus.new }
         ensures settings { SameSettings self.old self.new }
+        ensures steps { self.new.steps ≡ self.old.steps + 1 }
         ensures bus { KeepsBus bus.old bus.new }
     {
         match bus.fetch(pa, cached) {
@@ -304,6 +309,7 @@ impl Core {
         requires spare { 0 < bus.old.spare }
         ensures state { (world : World) → Represents bus.old world → IsState (step self.old world) self.new bus.new }
         ensures settings { SameSettings self.old self.new }
+        ensures steps { self.new.steps ≡ self.old.steps + 1 }
         ensures bus { KeepsBus bus.old bus.new }
     {
         let _ = &self.steps;

@@ -1,6 +1,6 @@
 //! Turns of a core.
 
-ghost use Rattle.std.specs.Prelude.{◌≡◌, ◌<◌, None, IsTrue};
+ghost use Rattle.std.specs.Prelude.{◌≡◌, ◌<◌, ◌+◌, if◌then◌else◌, None, IsTrue};
 ghost use Rattle.or_model.specs.World.{World};
 ghost use Rattle.or_model.specs.Turn.{turn_begun, turn_ended, turn};
 ghost use Rattle.or_bus.specs.Represents.{Represents};
@@ -39,6 +39,7 @@ impl Core {
         requires spare { 0 < bus.old.spare }
         ensures state { (world : World) → Represents bus.old world → IsState (turn_ended self.old world follows) self.new bus.new }
         ensures settings { SameSettings self.old self.new }
+        ensures steps { self.new.steps ≡ self.old.steps + (if follows then 1 else 0) }
         ensures bus { KeepsBus bus.old bus.new }
     {
         if follows {
@@ -49,15 +50,17 @@ impl Core {
 
     /// Makes one turn: private steps, at most 256, then a step on the bus where fewer were made and
     /// the core has not stopped, then the sampling of the interrupt lines.
-    #[tactic(auto, unfolding(or_model::specs::Turn::turn))]
+    #[tactic(auto, using(crate::proofs::Progress::turn_progress), unfolding(or_model::specs::Turn::turn))]
     pub fn turn(&mut self, bus: &mut Bus)
         requires running { self.old.stop ≡ None }
         requires known { self.old.number < bus.old.cores }
         requires spare { 0 < bus.old.spare }
         ensures state { (world : World) → Represents bus.old world → IsState (turn self.old world) self.new bus.new }
         ensures settings { SameSettings self.old self.new }
+        ensures progress { self.old.steps < self.new.steps }
         ensures bus { KeepsBus bus.old bus.new }
     {
+        let _ = &self.steps;
         let follows = self.begin_turn();
         self.end_turn(bus, follows);
     }
