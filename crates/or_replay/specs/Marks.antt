@@ -1,7 +1,7 @@
 -- The marks of a schedule: how far the board's history has come after each block of turns.
 use Rattle.std.specs.Prelude.{ℕ, zero, suc, ◌*◌, ◌/◌, List, [], ◌∷◌, ◌++◌, Option, Some, None, length, take, min}
 use Rattle.or_sched.specs.declared.recording.Mark.{Mark}
-use Rattle.or_bus.specs.State.{last_count}
+use Rattle.or_mem.specs.Memory.{last_count}
 use Rattle.or_model.specs.World.{World}
 use Rattle.or_model.specs.Turn.{Board, replay}
 

@@ -10,7 +10,7 @@ use Rattle.or_model.specs.Core.{Core, register}
 use Rattle.or_model.specs.World.{World}
 use Rattle.or_model.specs.Caches.{hits, misses}
 use Rattle.or_model.specs.Turn.{Board}
-use Rattle.or_bus.specs.State.{last_count}
+use Rattle.or_mem.specs.Memory.{last_count}
 
 abbrev pub stop_text : Option Stop → List ℕ
 stop_text None = codes "running"

@@ -3,10 +3,10 @@
 
 mod board;
 mod opening;
-mod report;
+mod reporting;
 mod rounds;
 
 pub use board::{Board, Refused};
 pub use opening::OpenFault;
-pub use report::{core_text, report};
+pub use reporting::{core_text, report};
 pub use rounds::{Finished, run_rounds};

@@ -3,7 +3,7 @@ ghost use Rattle.std.specs.Prelude.{◌≡◌, ◌≤◌, ◌<◌, ◌*◌, ◌+
 ghost use Rattle.std.specs.List.{All, fold};
 ghost use Rattle.or_words.specs.Settings.{Fits, ram_bytes};
 ghost use Rattle.or_elf.specs.Fault.{elf_fault, IsInside};
-ghost use Rattle.or_elf.specs.Header.{segments};
+ghost use Rattle.or_elf.specs.Header.{segments as segments_in};
 ghost use Rattle.or_elf.specs.Placed.{placed, place_segment};
 ghost use Rattle.or_model.specs.World.{new_world};
 ghost use Rattle.or_model.specs.Turn.{reset_cores};
@@ -77,7 +77,7 @@ fn place_all(ram: &mut Ram, image: &[u8], segments: &[Segment])
 #[tactic(auto, unfolding(or_elf::specs::Placed::placed))]
 fn loaded(alloc: Global, mib: u32, image: &[u8], segments: &[Segment]) -> Result<Ram, NoMemory>
     requires size { mib ≤ 256 }
-    requires all { segments.now ≡ segments image.now }
+    requires all { segments.now ≡ segments_in image.now }
     requires inside { All (IsInside (length image.now) (mib * 1048576)) segments.now }
     ensures { IfOk result (λ ram. ram.bytes ≡ placed image.now (mib * 1048576)) }
 {
@@ -126,7 +126,7 @@ fn opened(
     input: Vec<u8>,
 ) -> Result<Board, NoMemory>
     requires fits { Fits config.now }
-    requires all { segments.now ≡ segments image.now }
+    requires all { segments.now ≡ segments_in image.now }
     requires inside { All (IsInside (length image.now) (ram_bytes config.now)) segments.now }
     ensures cores { IfOk result (λ board. board.cores ≡ reset_cores config.now config.now.cores) }
     ensures bus { IfOk result (λ board. Represents board.bus (new_world (placed image.now (ram_bytes config.now)) config.now.cores input.items)) }
