@@ -29,12 +29,12 @@ turned_grows : (board : Board) (c : ℕ) → BoardGrows 1 board (board_turned bo
 unfolding board_turned
 turned_grows board c = turned_grows_by board c (running (slice_get board.cores c))
 
-more : (board middle : Board) (last : Option Board) (n : ℕ) → GrownBy 1 board.world middle.world → BoardGrows n middle last → BoardGrows (n + 1) board last
+more : (board middle : Board) (last : Option Board) (n : ℕ) → GrownBy 1 board.world middle.world → BoardGrows n middle last → BoardGrows (suc n) board last
 more board middle None n one later = tt
 more board middle (Some last) n one later = record { writes = omega (arith, one.writes, later.writes); console = omega (arith, one.console, later.console) }
 
 then_grows : (board : Board) (first : Option Board) (next : Board → Option Board) (n : ℕ) → BoardGrows 1 board first
-    → ((middle : Board) → BoardGrows n middle (next middle)) → BoardGrows (n + 1) board (and_then first next)
+    → ((middle : Board) → BoardGrows n middle (next middle)) → BoardGrows (suc n) board (and_then first next)
 then_grows board None next n one later = tt
 then_grows board (Some middle) next n one later = more board middle (next middle) n one (later middle)
 
@@ -67,6 +67,6 @@ marks_fit block start turns (suc n) none silent inside =
     let long : length front ≡ block * suc n = length-take-le (block * suc n) turns inside in
     let few : length (block_marks block start turns n) ≡ n = length-block_marks block start turns n in
     let within = mark_within start (replay start front) (length front) none silent (replay_grows start front) in
-    let bound : length front ≡ 0 + block * suc (length (block_marks block start turns n)) = long ∙ ap (λ k. 0 + block * suc k) (sym few) in
+    let bound : length front ≡ block * suc (length (block_marks block start turns n)) = long ∙ ap (λ k. block * suc k) (sym few) in
     marks_behind block 0 (block_marks block start turns n) (mark_after (replay start front)) (marks_fit block start turns n none silent fewer)
     (omega (arith, bound, within.0), omega (arith, bound, within.1))

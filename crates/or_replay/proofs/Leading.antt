@@ -1,12 +1,14 @@
 -- A run that makes one turn more.
-use Rattle.std.proofs.Common.{◌≡◌, ℕ, ◌+◌, ◌*◌, ◌%◌, ◌/◌, ◌<◌, ◌≤◌, List, [], ◌∷◌, ◌++◌, Some, length, refl, ap, sym, ◌∙◌, arith, length-append, Bool, true, false, cond, eqb}
+use Rattle.std.proofs.Common.{◌≡◌, ℕ, ◌+◌, ◌*◌, ◌%◌, ◌/◌, ◌<◌, ◌≤◌, List, [], ◌∷◌, ◌++◌, Some, length, refl, ap, sym, ◌∙◌, arith, length-append, Bool, true, false, cond, eqb, ◌&&◌, None, suc}
+use Rattle.std.specs.Prelude.{Option, is_none, slice_get}
+use Rattle.or_model.specs.declared.Stop.{Stop}
 use Rattle.std.proofs.lemmas.Bool.Decides.{nat_tests}
 use Rattle.or_sched.specs.declared.recording.Mark.{Mark}
 use Rattle.or_model.specs.Core.{Core}
 use Rattle.or_model.specs.World.{World}
 use Rattle.or_model.specs.Turn.{Board, board_turned, replay}
 use Rattle.or_bus.specs.State.{BusState}
-use Rattle.or_replay.specs.Board.{IsBoard, LeadsOn}
+use Rattle.or_replay.specs.Board.{IsBoard, LeadsOn, all_stopped}
 use Rattle.or_replay.specs.Marks.{mark_of, block_marks, marks}
 use Rattle.or_replay.specs.Rounds.{Led, with_mark}
 use Rattle.or_replay.proofs.Replaying.{replay_one_more, marks_stay, marks_one_more}
@@ -63,5 +65,17 @@ unfolding marks
 led_marks start turns kept cores bus led =
     let many : length kept ≡ length turns / 65536 = omega (arith, led.blocks, led.part) in
     led.marks ∙ ap (block_marks 65536 start turns) many
+
+stopped_by : (core : Core) (stop : Option Stop) → core.stop ≡ stop → ¬ (core.stop ≡ None) → (cond (is_none core.stop) false true) ≡ true
+stopped_by core None is runs_not = absurd (runs_not is)
+stopped_by core (Some stop) is runs_not = ap (λ (s : Option Stop). cond (is_none s) false true) is
+
+-- cores of which each has stopped
+pub each_stopped : (cores : List Core) → ((c : ℕ) (core : Core) → slice_get cores c ≡ Some core → ¬ (core.stop ≡ None)) → all_stopped cores ≡ true
+each_stopped [] each = refl
+each_stopped (core ∷ cores) each =
+    let here = stopped_by core core.stop refl (each 0 core refl) in
+    let later = each_stopped cores (λ c other at. each (suc c) other at) in
+    ap (λ b. b && all_stopped cores) here ∙ later
 
 pub ruleset leading = (led_on, led_marks)

@@ -1,11 +1,12 @@
 -- The cores at reset: how many, their numbers, and the steps that they may make.
-use Rattle.std.proofs.Common.{◌≡◌, ℕ, ◌+◌, ◌*◌, ◌-◌, ◌<◌, zero, suc, List, [], ◌∷◌, ◌++◌, Some, None, length, ◌⊎◌, inl, inr, refl, ap, sym, ◌∙◌, arith, length-append, add-one, cond}
+use Rattle.std.proofs.Common.{◌≡◌, ℕ, ◌+◌, ◌*◌, ◌-◌, ◌<◌, zero, suc, List, [], ◌∷◌, ◌++◌, Some, None, length, ◌⊎◌, inl, inr, refl, ap, sym, ◌∙◌, arith, length-append, add-one, cond, subst}
 use Rattle.std.specs.Prelude.{Option, slice_get, is_none}
 use Rattle.std.proofs.Math.Nat.{suc-mul}
 use Rattle.or_words.specs.declared.Config.{Config}
 use Rattle.or_model.specs.Core.{Core, reset_core}
 use Rattle.or_model.specs.Turn.{reset_cores}
-use Rattle.or_replay.specs.Board.{steps_left}
+use Rattle.or_bus.specs.State.{BusState}
+use Rattle.or_replay.specs.Board.{steps_left, IsInOrder}
 
 pub reset_cores-more : (config : Config) (count : ℕ) → reset_cores config (count + 1) ≡ reset_cores config count ++ reset_core config count ∷ []
 unfolding reset_cores
@@ -45,8 +46,20 @@ left_behind (y ∷ xs) x = omega (arith, left_behind xs x)
 -- together they may make each one's budget of steps
 pub left-reset_cores : (config : Config) (count : ℕ) → steps_left (reset_cores config count) ≡ count * config.budget
 unfolding reset_cores reset_core
-left-reset_cores config zero = refl
+left-reset_cores config zero = omega arith
 left-reset_cores config (suc count) =
-    left_behind (reset_cores config count) (reset_core config count) ∙ ap (λ n. n + config.budget) (left-reset_cores config count) ∙ sym (suc-mul count config.budget)
+    let last = left_behind (reset_cores config count) (reset_core config count) in
+    omega (arith, last, left-reset_cores config count, suc-mul count config.budget)
+
+-- the cores at reset are in order on a bus with room for all their steps
+pub start_order : (config : Config) (cores : List Core) (bus : BusState) → cores ≡ reset_cores config config.cores → bus.cores ≡ config.cores
+    → bus.spare ≡ config.cores * config.budget → IsInOrder cores bus
+start_order config cores bus is many spare =
+    let left = left-reset_cores config config.cores in
+    subst (λ (l : List Core). IsInOrder l bus) (sym is) (record {
+      many = length-reset_cores config config.cores ∙ sym many;
+      numbered = numbered-reset_cores config config.cores;
+      room = omega (arith, left, spare);
+    })
 
 pub ruleset reset = (reset_cores-more, reset_cores-none, length-reset_cores, numbered-reset_cores, left-reset_cores)

@@ -1,11 +1,18 @@
 -- A turn of one core lessens the steps that are left.
-use Rattle.std.proofs.Common.{◌≡◌, ℕ, ◌+◌, ◌-◌, ◌<◌, ◌≤◌, zero, suc, List, [], ◌∷◌, Some, None, length, refl, ap, sym, ◌∙◌, arith, cond}
-use Rattle.std.specs.Prelude.{Option, slice_get, slice_set, is_none}
+use Rattle.std.proofs.Common.{◌≡◌, ℕ, ◌+◌, ◌-◌, ◌<◌, ◌≤◌, zero, suc, List, [], ◌∷◌, Some, None, length, refl, ap, sym, ◌∙◌, arith, cond, subst, ◌⊎◌, inl, inr}
+use Rattle.std.specs.Prelude.{Option, slice_get, slice_set, slice_index_or, is_none}
 use Rattle.or_model.specs.Core.{Core}
-use Rattle.or_replay.specs.Board.{steps_left}
+use Rattle.or_model.specs.declared.Stop.{Stop}
+use Rattle.or_model.specs.World.{World}
+use Rattle.or_model.specs.Turn.{Board, turn, with_core, running, board_turned, board_turned_by}
+use Rattle.or_bus.specs.State.{BusState}
+use Rattle.or_bus.specs.Represents.{Represents}
+use Rattle.or_replay.specs.Board.{steps_left, left_of, IsInOrder, IsBoard, IsCoreTurned, TurnsAt, RunsAt, LeadsOn}
 
-abbrev pub left_of : Core → ℕ
-left_of core = cond (is_none core.stop) (core.budget - core.steps) 0
+length-set : (cores : List Core) (place : ℕ) (new : Core) → length (slice_set cores place new) ≡ length cores
+length-set [] place new = refl
+length-set (core ∷ cores) zero new = refl
+length-set (core ∷ cores) (suc place) new = ap suc (length-set cores place new)
 
 -- one core of fewer steps in the place of another
 pub fewer_left : (cores : List Core) (place : ℕ) (old new : Core) → slice_get cores place ≡ Some old → left_of new < left_of old
@@ -20,4 +27,70 @@ some_left [] place core at = absurd (let b : ⊥ = cc in b)
 some_left (first ∷ cores) zero core at = let same : first ≡ core = cc in omega (arith, ap left_of same)
 some_left (first ∷ cores) (suc place) core at = omega (arith, some_left cores place core at)
 
-pub ruleset turning = (fewer_left, some_left)
+-- a core that runs finds room on the console
+pub has_room : (cores : List Core) (place spare : ℕ) (core : Core) → slice_get cores place ≡ Some core → core.stop ≡ None → core.steps < core.budget
+    → steps_left cores ≤ spare → 0 < spare
+has_room cores place spare core at runs few room =
+    let left : left_of core ≡ core.budget - core.steps = ap (λ (stop : Option Stop). cond (is_none stop) (core.budget - core.steps) 0) runs in
+    omega (arith, left, some_left cores place core at, few)
+
+set_or_old : (cores : List Core) (place c : ℕ) (new core : Core) → slice_get (slice_set cores place new) c ≡ Some core
+    → ((c ≡ place) × (core ≡ new)) ⊎ (slice_get cores c ≡ Some core)
+set_or_old [] place c new core at = inr at
+set_or_old (first ∷ cores) zero zero new core at = inl (refl, cc)
+set_or_old (first ∷ cores) zero (suc c) new core at = inr at
+set_or_old (first ∷ cores) (suc place) zero new core at = inr at
+set_or_old (first ∷ cores) (suc place) (suc c) new core at = elim (set_or_old cores place c new core at) [ inl w ↦ inl (ap suc w.0, w.1) | inr w ↦ inr w ]
+
+-- the turn of the core at a place is the turn of every world's
+pub turned_at : (cores : List Core) (place : ℕ) (before after : Core) (bus new_bus : BusState) → IsCoreTurned before bus after new_bus
+    → slice_get cores place ≡ Some before → TurnsAt cores bus place (slice_set cores place after) new_bus
+turned_at cores place before after bus new_bus is at core world again represents =
+    let same : before ≡ core = cc in
+    let made = subst (λ (k : Core). (after ≡ (turn k world).core) × Represents new_bus (turn k world).world) same (is.state world represents) in
+    (ap (slice_set cores place) made.0, made.1)
+
+-- and the cores stay in order, with room for their steps
+pub order_stays : (cores : List Core) (place : ℕ) (before after : Core) (bus new_bus : BusState) → IsCoreTurned before bus after new_bus
+    → slice_get cores place ≡ Some before → IsInOrder cores bus → IsInOrder (slice_set cores place after) new_bus
+order_stays cores place before after bus new_bus is at order =
+    let fewer = fewer_left cores place before after at is.left in
+    record {
+      many = length-set cores place after ∙ order.many ∙ sym is.cores;
+      numbered = λ c core found. elim (set_or_old cores place c after core found) [
+        | inl w ↦ ap (λ (k : Core). k.number) w.1 ∙ is.number ∙ order.numbered place before at ∙ sym w.0
+        | inr w ↦ order.numbered c core w
+      ];
+      room = omega (arith, fewer, order.room, is.room);
+    }
+
+pub steps_lessen : (cores : List Core) (place : ℕ) (before after : Core) (bus new_bus : BusState) → IsCoreTurned before bus after new_bus
+    → slice_get cores place ≡ Some before → steps_left (slice_set cores place after) < steps_left cores
+steps_lessen cores place before after bus new_bus is at = fewer_left cores place before after at is.left
+
+pub ruleset turning = (has_room, turned_at, order_stays, steps_lessen)
+
+get_some : (cores : List Core) (c : ℕ) → c < length cores → (core : Core) × (slice_get cores c ≡ Some core)
+get_some [] c inside = absurd (omega arith)
+get_some (core ∷ cores) zero inside = (core, refl)
+get_some (core ∷ cores) (suc c) inside = get_some cores c (omega arith)
+
+-- a core that runs leads every board on
+pub leads_on : (cores : List Core) (bus : BusState) (place : ℕ) (new_cores : List Core) (new_bus : BusState) → RunsAt cores place
+    → TurnsAt cores bus place new_cores new_bus → LeadsOn cores bus place new_cores new_bus
+unfolding board_turned
+leads_on cores bus place new_cores new_bus runs turns now is =
+    let found = get_some cores place runs.0 in
+    let core : Core = found.0 in
+    let next : Board = with_core now place (turn core now.world) in
+    let at_now : slice_get now.cores place ≡ Some core = ap (λ l. slice_get l place) (sym is.same_cores) ∙ found.1 in
+    let stop : core.stop ≡ None = runs.1 core found.1 in
+    let run : running (Some core) ≡ Some core = ap (λ (s : Option Stop). cond (is_none s) (Some core) None) stop in
+    let turned : board_turned_by now place (running (slice_get now.cores place)) ≡ Some next = ap (λ o. board_turned_by now place (running o)) at_now ∙ ap (board_turned_by now place) run in
+    let made = turns core now.world found.1 is.represents in
+    (next, turned, record { same_cores = made.0 ∙ ap (λ l. slice_set l place (turn core now.world).core) is.same_cores; represents = made.1 })
+
+pub get_is : (cores : List Core) (c : ℕ) (default : Core) → c < length cores → slice_get cores c ≡ Some (slice_index_or cores c default)
+get_is [] c default inside = absurd (omega arith)
+get_is (core ∷ cores) zero default inside = refl
+get_is (core ∷ cores) (suc c) default inside = get_is cores c default (omega arith)

@@ -1,8 +1,9 @@
 -- What contracts see of a board, and the written board that it is.
-use Rattle.std.specs.Prelude.{◌≡◌, ◌≤◌, ◌<◌, ℕ, ◌-◌, ◌+◌, List, [], ◌∷◌, Option, Some, None, Result, Ok, Err, length, slice_get, is_none, Bool, true, false, ◌&&◌, if◌then◌else◌}
+use Rattle.std.specs.Prelude.{◌≡◌, ◌≤◌, ◌<◌, ℕ, ◌-◌, ◌+◌, List, [], ◌∷◌, Option, Some, None, Result, Ok, Err, length, slice_get, slice_set, is_none, Bool, true, false, ◌&&◌, if◌then◌else◌}
 use Rattle.or_words.specs.declared.Config.{Config}
 use Rattle.or_model.specs.Core.{Core}
-use Rattle.or_model.specs.Turn.{Board, board_turned}
+use Rattle.or_model.specs.Turn.{Board, turn, board_turned}
+use Rattle.or_model.specs.World.{World}
 use Rattle.or_bus.specs.State.{BusState}
 use Rattle.or_bus.specs.Represents.{Represents}
 use Rattle.or_replay.specs.declared.board.Refused.{Refused}
@@ -64,3 +65,20 @@ RunsAt cores c = (c < length cores) × ((core : Core) → slice_get cores c ≡ 
 -- one turn of a core leads on from every board that this is
 abbrev pub LeadsOn : List Core → BusState → ℕ → List Core → BusState → Type 0
 LeadsOn cores bus c new_cores new_bus = (now : Board) → IsBoard cores bus now → (next : Board) × (board_turned now c ≡ Some next) × IsBoard new_cores new_bus next
+
+-- the steps that a core may still make
+abbrev pub left_of : Core → ℕ
+left_of core = if is_none core.stop then core.budget - core.steps else 0
+
+-- a turn of one core, for every world that the bus represents
+pub record IsCoreTurned (core : Core) (bus : BusState) (new_core : Core) (new_bus : BusState) : Type 0 where
+  pub state : (world : World) → Represents bus world → (new_core ≡ (turn core world).core) × Represents new_bus (turn core world).world
+  pub number : new_core.number ≡ core.number
+  pub left : left_of new_core < left_of core
+  pub cores : new_bus.cores ≡ bus.cores
+  pub room : bus.spare ≤ new_bus.spare + 1
+
+-- the core at a place has made a turn, and all others are as before
+abbrev pub TurnsAt : List Core → BusState → ℕ → List Core → BusState → Type 0
+TurnsAt cores bus place new_cores new_bus = (core : Core) (world : World) → slice_get cores place ≡ Some core → Represents bus world
+    → (new_cores ≡ slice_set cores place (turn core world).core) × Represents new_bus (turn core world).world

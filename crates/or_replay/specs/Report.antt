@@ -27,24 +27,28 @@ progress_line core counts =
     codes "core " ++ decimal core.number ++ codes " " ++ stop_text core.stop ++ codes " steps " ++ decimal core.steps
     ++ codes " hits " ++ decimal counts.hits ++ codes " misses " ++ decimal counts.misses ++ codes "\n"
 
+-- a name with its blank, and a word
+abbrev pub field_text : List ℕ → ℕ → List ℕ
+field_text name word = name ++ word_text word
+
 -- where it is, and what it has saved
 unfoldable pub place_line : Core → List ℕ
 place_line core =
-    codes "pc " ++ word_text core.pc ++ codes " slot " ++ slot_text core.branch ++ codes " sr " ++ word_text core.sr
-    ++ codes " epcr " ++ word_text core.epcr ++ codes " eear " ++ word_text core.eear ++ codes " esr " ++ word_text core.esr ++ codes "\n"
+    field_text (codes "pc ") core.pc ++ codes " slot " ++ slot_text core.branch ++ field_text (codes " sr ") core.sr
+    ++ field_text (codes " epcr ") core.epcr ++ field_text (codes " eear ") core.eear ++ field_text (codes " esr ") core.esr ++ codes "\n"
 
 -- its accumulator, tick timer and interrupt controller
 unfoldable pub unit_line : Core → List ℕ
 unit_line core =
-    codes "machi " ++ word_text core.machi ++ codes " maclo " ++ word_text core.maclo ++ codes " ttmr " ++ word_text core.ttmr
-    ++ codes " ttcr " ++ word_text core.ttcr ++ codes " picmr " ++ word_text core.picmr ++ codes " picsr " ++ word_text core.picsr ++ codes "\n"
+    field_text (codes "machi ") core.machi ++ field_text (codes " maclo ") core.maclo ++ field_text (codes " ttmr ") core.ttmr
+    ++ field_text (codes " ttcr ") core.ttcr ++ field_text (codes " picmr ") core.picmr ++ field_text (codes " picsr ") core.picsr ++ codes "\n"
 
 -- eight registers stand in a line
 abbrev pub behind_register : ℕ → List ℕ
 behind_register n = if n % 8 == 7 then codes "\n" else codes " "
 
 -- the first so many registers
-abbrev pub registers_text : Core → ℕ → List ℕ
+unfoldable pub registers_text : Core → ℕ → List ℕ
 registers_text core zero = []
 registers_text core (suc n) = registers_text core n ++ word_text (register core n) ++ behind_register n
 
@@ -59,12 +63,13 @@ shown_counts world c = record { hits = min (hits world.accesses c) last_count; m
 abbrev pub core_blocks : World → List Core → List ℕ
 core_blocks world cores = flat_map (λ core. core_block core (shown_counts world core.number)) cores
 
-abbrev pub report_head : ℕ → ℕ → ℕ → List ℕ
-report_head cores turns console =
-    codes "orreport 1\ncores " ++ decimal cores ++ codes " turns " ++ decimal turns ++ codes " console " ++ decimal console ++ codes "\n"
+-- the numbers of cores, of turns and of console bytes
+unfoldable pub counts_line : ℕ → ℕ → ℕ → List ℕ
+counts_line cores turns console =
+    codes "cores " ++ decimal cores ++ codes " turns " ++ decimal turns ++ codes " console " ++ decimal console ++ codes "\n"
 
 -- the report of a board after so many turns
 unfoldable pub report_text : Board → ℕ → List ℕ
 report_text board turns =
-    report_head (length board.cores) turns (length board.world.uart.console) ++ core_blocks board.world board.cores
+    codes "orreport 1\n" ++ counts_line (length board.cores) turns (length board.world.uart.console) ++ core_blocks board.world board.cores
     ++ (codes "memory " ++ digest_text (sha256 board.world.ram) ++ codes "\n")

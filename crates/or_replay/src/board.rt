@@ -6,7 +6,7 @@ ghost use Rattle.or_model.specs.World.{World};
 ghost use Rattle.or_model.specs.Turn.{Board as BoardModel, turn, board_turned};
 ghost use Rattle.or_bus.specs.Represents.{Represents};
 ghost use Rattle.or_replay.specs.Marks.{mark_of};
-ghost use Rattle.or_replay.specs.Board.{IsBoard, IsInOrder, IsTurned, steps_left, all_stopped, RefusedBy, Lessens, RunsAt, LeadsOn, AreOfBus};
+ghost use Rattle.or_replay.specs.Board.{IsBoard, IsInOrder, IsTurned, steps_left, all_stopped, RefusedBy, Lessens, RunsAt, LeadsOn, AreOfBus, IsCoreTurned, TurnsAt};
 
 use arrayvec::ArrayVec;
 use or_bus::{Bus, Counts};
@@ -154,22 +154,31 @@ fn turn_one(cores: &mut [Core], core: u8, bus: &mut Bus) -> Result<(), Refused>
     Ok(())
 }
 
+// One turn of a core that runs.
+fn turn_core(core: &mut Core, bus: &mut Bus)
+    requires running { core.old.stop ≡ None }
+    requires known { core.old.number < bus.old.cores }
+    requires spare { 0 < bus.old.spare }
+    ensures turned { IsCoreTurned core.old bus.old core.new bus.new }
+{
+    let _ = core.stop();
+    core.turn(bus);
+}
+
 // One turn of the core at a place, which runs.
 #[tactic(auto, using(crate::proofs::Turning::turning))]
 pub(crate) fn turn_at(cores: &mut [Core], place: usize, bus: &mut Bus)
     requires order { IsInOrder cores.old bus.old }
     requires runs { RunsAt cores.old place }
-    ensures turned { (core : CoreModel) (world : World) → slice_get cores.old place ≡ Some core → Represents bus.old world
-        → (cores.new ≡ slice_set cores.old place (turn core world).core) × Represents bus.new (turn core world).world }
+    ensures turned { TurnsAt cores.old bus.old place cores.new bus.new }
     ensures order { IsInOrder cores.new bus.new }
     ensures left { steps_left cores.new < steps_left cores.old }
 {
     let _ = cores[place].stop();
-    cores[place].turn(bus);
+    turn_core(&mut cores[place], bus);
 }
 
 // The same, as a turn of every board that this is.
-#[tactic(auto, unfolding(or_model::specs::Turn::board_turned))]
 pub(crate) fn turn_running(cores: &mut [Core], place: usize, bus: &mut Bus)
     requires order { IsInOrder cores.old bus.old }
     requires runs { RunsAt cores.old place }

@@ -49,7 +49,8 @@ fn bytes_of<'a>(image: &'a [u8], segment: &Segment) -> &'a [u8]
 // Places a segment in RAM.
 #[tactic(auto, using(crate::proofs::Placing::placing))]
 fn place(ram: &mut Ram, image: &[u8], segment: &Segment)
-    requires { IsInside (length image.now) (length ram.old.bytes) segment.now }
+    requires inside { IsInside (length image.now) (length ram.old.bytes) segment.now }
+    requires small { length ram.old.bytes ≤ 268435456 }
     ensures bytes { ram.new.bytes ≡ place_segment image.now ram.old.bytes segment.now }
     ensures size { length ram.new.bytes ≡ length ram.old.bytes }
 {
@@ -62,7 +63,8 @@ fn place(ram: &mut Ram, image: &[u8], segment: &Segment)
 
 // Places all segments in order.
 fn place_all(ram: &mut Ram, image: &[u8], segments: &[Segment])
-    requires { All (IsInside (length image.now) (length ram.old.bytes)) segments.now }
+    requires small { length ram.old.bytes ≤ 268435456 }
+    requires inside { All (IsInside (length image.now) (length ram.old.bytes)) segments.now }
     ensures bytes { ram.new.bytes ≡ fold (place_segment image.now) ram.old.bytes segments.now }
     ensures size { length ram.new.bytes ≡ length ram.old.bytes }
 {
@@ -79,7 +81,8 @@ fn loaded(alloc: Global, mib: u32, image: &[u8], segments: &[Segment]) -> Result
     requires size { mib ≤ 256 }
     requires all { segments.now ≡ segments_in image.now }
     requires inside { All (IsInside (length image.now) (mib * 1048576)) segments.now }
-    ensures { IfOk result (λ ram. ram.bytes ≡ placed image.now (mib * 1048576)) }
+    ensures bytes { IfOk result (λ ram. ram.bytes ≡ placed image.now (mib * 1048576)) }
+    ensures size { IfOk result (λ ram. length ram.bytes ≡ mib * 1048576) }
 {
     let mut ram = Ram::open(alloc, mib)?;
     place_all(&mut ram, image, segments);

@@ -6,7 +6,7 @@ ghost use Rattle.or_replay.specs.Board.{AreOfBus};
 ghost use Rattle.or_model.specs.Turn.{Board as BoardModel};
 ghost use Rattle.or_model.specs.World.{World};
 ghost use Rattle.or_bus.specs.Represents.{Represents};
-ghost use Rattle.or_replay.specs.Report.{stop_text, slot_text, progress_line, place_line, unit_line, behind_register, registers_text, core_block, core_blocks, report_head, report_text};
+ghost use Rattle.or_replay.specs.Report.{stop_text, slot_text, progress_line, field_text, place_line, unit_line, behind_register, registers_text, core_block, core_blocks, counts_line, report_text};
 
 use or_bus::{Bus, Counts};
 use or_core::{Core, Stop};
@@ -94,24 +94,27 @@ fn interrupts(core: &Core) -> (u32, u32)
     (core.special(18432), core.special(18434))
 }
 
+// A name with its blank, and a word.
+fn append_field(name: &[u8], word: u32, out: &mut Vec<u8>) -> Result<(), AllocError>
+    ensures { OnOk result (out.new.items ≡ out.old.items ++ field_text name.now word) }
+{
+    out.extend_from_slice(name)?;
+    append_word(word, out)
+}
+
 #[tactic(auto, unfolding(crate::specs::Report::place_line))]
 fn append_place(core: &Core, out: &mut Vec<u8>) -> Result<(), AllocError>
     ensures { OnOk result (out.new.items ≡ out.old.items ++ place_line core.now) }
 {
     let place = core.place();
     let (sr, epcr, eear, esr) = saved(core);
-    out.extend_from_slice(b"pc ")?;
-    append_word(place.pc, out)?;
+    append_field(b"pc ", place.pc, out)?;
     out.extend_from_slice(b" slot ")?;
     append_slot(place.branch, out)?;
-    out.extend_from_slice(b" sr ")?;
-    append_word(sr, out)?;
-    out.extend_from_slice(b" epcr ")?;
-    append_word(epcr, out)?;
-    out.extend_from_slice(b" eear ")?;
-    append_word(eear, out)?;
-    out.extend_from_slice(b" esr ")?;
-    append_word(esr, out)?;
+    append_field(b" sr ", sr, out)?;
+    append_field(b" epcr ", epcr, out)?;
+    append_field(b" eear ", eear, out)?;
+    append_field(b" esr ", esr, out)?;
     out.extend_from_slice(b"\n")
 }
 
@@ -122,18 +125,12 @@ fn append_units(core: &Core, out: &mut Vec<u8>) -> Result<(), AllocError>
     let (machi, maclo) = accumulator(core);
     let (ttmr, ttcr) = timer(core);
     let (picmr, picsr) = interrupts(core);
-    out.extend_from_slice(b"machi ")?;
-    append_word(machi, out)?;
-    out.extend_from_slice(b" maclo ")?;
-    append_word(maclo, out)?;
-    out.extend_from_slice(b" ttmr ")?;
-    append_word(ttmr, out)?;
-    out.extend_from_slice(b" ttcr ")?;
-    append_word(ttcr, out)?;
-    out.extend_from_slice(b" picmr ")?;
-    append_word(picmr, out)?;
-    out.extend_from_slice(b" picsr ")?;
-    append_word(picsr, out)?;
+    append_field(b"machi ", machi, out)?;
+    append_field(b" maclo ", maclo, out)?;
+    append_field(b" ttmr ", ttmr, out)?;
+    append_field(b" ttcr ", ttcr, out)?;
+    append_field(b" picmr ", picmr, out)?;
+    append_field(b" picsr ", picsr, out)?;
     out.extend_from_slice(b"\n")
 }
 
@@ -148,6 +145,7 @@ fn append_behind(n: u32, out: &mut Vec<u8>) -> Result<(), AllocError>
 }
 
 // All registers, eight in a line.
+#[tactic(auto, using(crate::proofs::Registers::registers))]
 fn append_registers(core: &Core, out: &mut Vec<u8>) -> Result<(), AllocError>
     ensures { OnOk result (out.new.items ≡ out.old.items ++ registers_text core.now 32) }
 {
@@ -199,10 +197,16 @@ fn append_cores(cores: &[Core], bus: &Bus, out: &mut Vec<u8>) -> Result<(), Allo
     Ok(())
 }
 
-fn append_head(cores: usize, turns: u64, console: usize, out: &mut Vec<u8>) -> Result<(), AllocError>
-    ensures { OnOk result (out.new.items ≡ out.old.items ++ report_head cores turns console) }
+#[tactic(auto, unfolding(crate::specs::Report::counts_line))]
+fn append_counts(
+    cores: usize,
+    turns: u64,
+    console: usize,
+    out: &mut Vec<u8>,
+) -> Result<(), AllocError>
+    ensures { OnOk result (out.new.items ≡ out.old.items ++ counts_line cores turns console) }
 {
-    out.extend_from_slice(b"orreport 1\ncores ")?;
+    out.extend_from_slice(b"cores ")?;
     append_decimal(cores as u64, out)?;
     out.extend_from_slice(b" turns ")?;
     append_decimal(turns, out)?;
@@ -220,9 +224,10 @@ fn append_front(
 ) -> Result<(), AllocError>
     requires { AreOfBus cores.now bus.now }
     ensures { OnOk result ((world : World) → Represents bus.now world
-        → out.new.items ≡ out.old.items ++ report_head (length cores.now) turns (length world.uart.console) ++ core_blocks world cores.now) }
+        → out.new.items ≡ out.old.items ++ codes "orreport 1\n" ++ counts_line (length cores.now) turns (length world.uart.console) ++ core_blocks world cores.now) }
 {
-    append_head(cores.len(), turns, bus.console().len(), out)?;
+    out.extend_from_slice(b"orreport 1\n")?;
+    append_counts(cores.len(), turns, bus.console().len(), out)?;
     append_cores(cores, bus, out)
 }
 
@@ -234,9 +239,27 @@ fn append_memory(ram: &[u8], out: &mut Vec<u8>) -> Result<(), AllocError>
     out.extend_from_slice(b"\n")
 }
 
+// The report, and the console's bytes.
+#[tactic(auto, unfolding(crate::specs::Report::report_text))]
+fn made(
+    alloc: Global,
+    cores: &[Core],
+    bus: Bus,
+    turns: u64,
+) -> Result<(Vec<u8>, Vec<u8>), AllocError>
+    requires { AreOfBus cores.now bus }
+    ensures { IfOk result (λ made. (board : BoardModel) → cores.now ≡ board.cores → Represents bus board.world
+        → (made.0.items ≡ report_text board turns) × (made.1.items ≡ board.world.uart.console)) }
+{
+    let mut text = Vec::new(alloc);
+    append_front(cores, &bus, turns, &mut text)?;
+    let (ram, console) = bus.into_parts();
+    append_memory(&ram, &mut text)?;
+    Ok((text, console))
+}
+
 /// Appends the report of a board whose cores and bus these are, after so many turns, and answers the console's bytes.
 /// NoMemory leaves `out` as it was.
-#[tactic(auto, unfolding(crate::specs::Report::report_text))]
 pub fn report(
     alloc: Global,
     cores: &[Core],
@@ -245,20 +268,15 @@ pub fn report(
     out: &mut Vec<u8>,
 ) -> Result<Vec<u8>, NoMemory>
     requires { AreOfBus cores.now bus }
-    ensures ok { (board : BoardModel) → cores.now ≡ board.cores → Represents bus board.world → IfOk result
-        (λ console. (console.items ≡ board.world.uart.console) × (out.new.items ≡ out.old.items ++ report_text board turns)) }
+    ensures ok { IfOk result (λ console. (board : BoardModel) → cores.now ≡ board.cores → Represents bus board.world
+        → (console.items ≡ board.world.uart.console) × (out.new.items ≡ out.old.items ++ report_text board turns)) }
     ensures err { OnErr result (out.new.items ≡ out.old.items) }
 {
-    let mut text = Vec::new(alloc);
-    if append_front(cores, &bus, turns, &mut text).is_err() {
-        return Err(NoMemory);
-    }
-    let (ram, console) = bus.into_parts();
-    if append_memory(&ram, &mut text).is_err() {
-        return Err(NoMemory);
-    }
-    match out.extend_from_slice(&text) {
-        Ok(()) => Ok(console),
+    match made(alloc, cores, bus, turns) {
+        Ok((text, console)) => match out.extend_from_slice(&text) {
+            Ok(()) => Ok(console),
+            Err(_) => Err(NoMemory),
+        },
         Err(_) => Err(NoMemory),
     }
 }
