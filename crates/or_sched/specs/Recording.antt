@@ -1,5 +1,5 @@
 -- What text is a recording, where a text stops being the beginning of one, and what has ended in a beginning.
-use Rattle.std.specs.Prelude.{◌≡◌, ℕ, ◌+◌, ◌-◌, ◌<◌, ◌==◌, List, [], ◌∷◌, ◌++◌, take, length, map, count_by, Bool, false, ◌⊎◌, if◌then◌else◌, nat_lt}
+use Rattle.std.specs.Prelude.{◌≡◌, ℕ, ◌+◌, ◌-◌, ◌<◌, ◌==◌, List, [], ◌++◌, take, length, map, count_by, false, ◌⊎◌, if◌then◌else◌, nat_lt}
 use Rattle.or_words.specs.Settings.{Fits}
 use Rattle.or_sched.specs.declared.recording.Head.{Head}
 use Rattle.or_sched.specs.declared.recording.Mark.{Mark}
