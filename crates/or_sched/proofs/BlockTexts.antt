@@ -22,7 +22,7 @@ use Rattle.or_sched.proofs.Bridge.{AreTurns, AreRuns, runs_are}
 use Rattle.or_sched.proofs.BodyLemmas.{turns_of_runs, are_turns}
 
 -- the runs of a block's turns
-record BlockRuns (cores left : ℕ) (turns : List ℕ) : Type 0 where
+pub record BlockRuns (cores left : ℕ) (turns : List ℕ) : Type 0 where
   pub run : ℕ × ℕ
   pub others : List (ℕ × ℕ)
   pub text : block_text turns ≡ lines_text 16 (run ∷ others)
@@ -36,7 +36,7 @@ block_runs_by cores left turn turns [] e r = absurd (omega (arith, r.some))
 block_runs_by cores left turn turns (run ∷ others) e r =
     record { run = run; others = others; text = ap (lines_text 16) e; follow = r.follow; after = omega (arith, r.after); whole = r.whole; is = e }
 
-block_runs : (cores left : ℕ) (turns : List ℕ) → 0 < length turns → length turns ≤ left → AreTurns cores turns → BlockRuns cores left turns
+pub block_runs : (cores left : ℕ) (turns : List ℕ) → 0 < length turns → length turns ≤ left → AreTurns cores turns → BlockRuns cores left turns
 block_runs cores left [] some fits are = absurd (omega arith)
 block_runs cores left (turn ∷ turns) some fits are =
     block_runs_by cores left turn turns (runs_after turn 1 turns) refl
@@ -67,12 +67,12 @@ pub marks_of_runs : (all : List (ℕ × ℕ)) (decoded : List Item) → marks_of
 marks_of_runs [] decoded = refl
 marks_of_runs (run ∷ others) decoded = marks_of_runs others decoded
 
-are_take : (cores n : ℕ) (turns : List ℕ) → AreTurns cores turns → AreTurns cores (take n turns)
+pub are_take : (cores n : ℕ) (turns : List ℕ) → AreTurns cores turns → AreTurns cores (take n turns)
 are_take cores zero turns are = tt
 are_take cores (suc n) [] are = tt
 are_take cores (suc n) (turn ∷ turns) are = (are.0, are_take cores n turns are.1)
 
-are_drop : (cores n : ℕ) (turns : List ℕ) → AreTurns cores turns → AreTurns cores (drop n turns)
+pub are_drop : (cores n : ℕ) (turns : List ℕ) → AreTurns cores turns → AreTurns cores (drop n turns)
 are_drop cores zero turns are = are
 are_drop cores (suc n) [] are = tt
 are_drop cores (suc n) (turn ∷ turns) are = are_drop cores n turns are.1

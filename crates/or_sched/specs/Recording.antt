@@ -56,12 +56,6 @@ line_feeds bytes = count_by (λ byte. byte == 10) bytes
 abbrev pub fault_name : List ℕ → RecFault
 fault_name front = if nat_lt (line_feeds front) 4 then BadHead (line_feeds front + 1) else BadRun (length front)
 
--- the fault of these bytes has this name
-pub record HasFault (bytes : List ℕ) (fault : RecFault) : Type 0 where
-  pub place : ℕ
-  pub is : FaultAt bytes place
-  pub name : fault ≡ fault_name (take place bytes)
-
 -- the turns and the marks of the items that have ended in the first `n` bytes behind the head
 pub record AreEnded (n : ℕ) (items : List Item) (turns : List ℕ) (marks : List Mark) : Type 0 where
   pub turns_are : turns ≡ turns_of (ended_in 16 n items)
