@@ -1,6 +1,6 @@
 -- A text is a recording of one head, and of one list of turns and one of marks, at most.
-use Rattle.std.proofs.Common.{◌≡◌, ◌≢◌, ◌∙◌, sym, ap, subst, ℕ, zero, suc, List, ◌++◌, ◌∷◌, [], ◌+◌, ◌-◌, ◌*◌, ◌/◌, ◌^◌, ◌≤◌, ◌<◌, append_assoc, append-nil, arith, refl, length, length-append, length-drop, take, drop, inl, inr, ◌⊎◌, decimal, Bool, true, false}
-use Rattle.std.specs.Prelude.{codes, All}
+use Rattle.std.proofs.Common.{◌≡◌, ◌∙◌, sym, ap, subst, ℕ, zero, suc, List, ◌++◌, ◌∷◌, [], ◌+◌, ◌-◌, ◌*◌, ◌^◌, ◌≤◌, ◌<◌, append_assoc, append-nil, arith, refl, length, length-append, length-drop, take, drop, inl, inr, ◌⊎◌, decimal, Bool, true, false}
+use Rattle.std.specs.Prelude.{codes}
 use Rattle.std.proofs.lemmas.Bool.{cases_eq}
 use Rattle.std.proofs.lemmas.Fmt.{decimal_injective, decimal_nonempty}
 use Rattle.std.proofs.lemmas.List.{take-append-drop, length-take-le, append_cancel_left}
@@ -414,8 +414,7 @@ unique1 bytes head other turns others a b =
     let h : IsHeadText (known_of 1 head) (block_text turns) bytes = says1 bytes head turns a in
     let o : IsHeadText (known_of 1 other) (block_text others) bytes = says1 bytes other others b in
     let k : Rest (known_of 1 head) (known_of 1 other) (block_text turns) (block_text others) =
-    known_same (known_of 1 head) (known_of 1 other) (block_text turns) (block_text others) h.fits o.fits (sym h.text ∙ o.text) in
-    (
+    known_same (known_of 1 head) (known_of 1 other) (block_text turns) (block_text others) h.fits o.fits (sym h.text ∙ o.text) in (
       ap head_of k.is,
       last_same (length turns + length others + 1) 0 0 turns others
           (one_block_of head turns (length turns + length others + 1) (omega arith) a.is_head a.schedule)
