@@ -1,6 +1,6 @@
 -- The pieces of a program share no address.
-use Rattle.std.proofs.Common.{◌≡◌, ◌∙◌, refl, sym, ap, subst, ℕ, ◌+◌, ◌-◌, ◌*◌, ◌/◌, ◌%◌, ◌^◌, ◌<◌, ◌≤◌, ◌⊎◌, inl, inr, ⊎_elim, Bool, true, false, cond, leb, ltb, eqb, ◌&&◌, ◌||◌, List, [], ◌∷◌, ◌++◌, length, codes, Option, Some, None, Result, Ok, Err, arith}
-use Rattle.std.specs.Prelude.{not, is_some, ℤ, pos, negsuc}
+use Rattle.std.proofs.Common.{◌≡◌, ◌∙◌, refl, sym, ap, subst, ℕ, ◌+◌, ◌-◌, ◌/◌, ◌%◌, ◌^◌, ◌<◌, ◌≤◌, ◌⊎◌, inl, inr, Bool, true, false, cond, leb, ltb, eqb, ◌&&◌, ◌||◌, List, [], ◌∷◌, ◌++◌, length, codes, Option, Some, None, Result, Ok, Err, arith}
+use Rattle.std.specs.Prelude.{is_some, ℤ, pos, negsuc}
 use Rattle.std.specs.List.{list_any}
 use Rattle.std.specs.Str.{bytes_eq}
 use Rattle.std.proofs.lemmas.List.{length-append}
@@ -16,13 +16,13 @@ use Rattle.or_asm_read.specs.Numbers.{number_of}
 use Rattle.or_asm_read.specs.Labels.{Labels}
 use Rattle.or_asm_read.specs.Operands.{is_empty, value_at}
 use Rattle.or_asm_read.specs.Statements.{org_at, word_at, insn_at, named_at, statement_at}
-use Rattle.or_asm.specs.Lines.{lines_of, is_org, puts_word}
+use Rattle.or_asm.specs.Lines.{lines_of, puts_word}
 use Rattle.or_asm.specs.Program.{covers, appended, extended}
 use Rattle.or_asm.specs.Source.{State, initial_state, label_count, with_word, carried_out, state_after, line_fault, source_of}
 use Rattle.or_asm.specs.First.{RunsWithoutFault, all_labels}
 use Rattle.or_asm.proofs.Firsts.{program_is}
 use Rattle.or_asm.proofs.Pairs.{EndsAt, FollowsAt, with_word_ends}
-use Rattle.or_asm.proofs.AgreeingPasses.{OnlyWords, word_words, insn_words, Faultless, faultless, gives_word}
+use Rattle.or_asm.proofs.AgreeingPasses.{OnlyWords, word_words, insn_words, faultless, gives_word}
 use Rattle.or_asm_laws.specs.Apart.{end_of, AreApart, IsApartFrom, AllApart, IsInMemory, AllInMemory}
 
 -- a word at a place touches no piece

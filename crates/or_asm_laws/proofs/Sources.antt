@@ -22,7 +22,6 @@ use Rattle.or_asm_laws.specs.SlotFits.{org_line}
 use Rattle.or_asm_laws.proofs.Numerals.{number_says}
 use Rattle.or_asm_laws.proofs.Numbers.{number_hex}
 use Rattle.or_asm_laws.proofs.Spelled.{is_mark, all_of, all_append, later_plain, plain_mark, or_left, none_such, no_blanks, trimmed_same, ended_behind, digits_later}
-use Rattle.or_asm_laws.proofs.Places.{hex_later}
 use Rattle.or_asm_laws.proofs.Statements.{statement_again}
 use Rattle.or_asm_laws.proofs.Lines.{is_line, Clear, clear, lines_at, lines_one, text_first, text_line, text_clear}
 
