@@ -4,13 +4,15 @@ use Rattle.std.specs.Prelude.{ℕ, ◌+◌, ◌-◌, ◌*◌, ◌/◌, ◌%◌, 
 use Rattle.std.specs.Int.{cast_unsigned, w32}
 use Rattle.or_isa.specs.declared.Insn.{Insn}
 use Rattle.or_isa.specs.declared.Insn.TheVariants.{J, Jal, Bnf, Bf, Adrp, Nop, Sys, Trap, Movhi, Macrc, Msync, Psync, Csync, Rfe, Jr, Jalr, Maci, Lwa, Lwz, Lws, Lbz, Lbs, Lhz, Lhs, Addi, Addic, Xori, Muli, Andi, Ori, Mfspr, Slli, Srli, Srai, Rori, Sfeqi, Sfnei, Sfgtui, Sfgeui, Sfltui, Sfleui, Sfgtsi, Sfgesi, Sfltsi, Sflesi, Mtspr, Mac, Msb, Macu, Msbu, Swa, Sw, Sb, Sh, Add, Addc, Sub, And, Or, Xor, Cmov, Mul, Div, Divu, Mulu, Sll, Srl, Sra, Ror, Muld, Muldu, Ff1, Fl1, Exths, Extbs, Exthz, Extbz, Extws, Extwz, Sfeq, Sfne, Sfgtu, Sfgeu, Sfltu, Sfleu, Sfgts, Sfges, Sflts, Sfles}
+use Rattle.or_words.specs.declared.ShiftKind.{ShiftKind}
 use Rattle.or_words.specs.declared.ShiftKind.TheVariants.{Lower, Upper, Arithmetic, Rotate}
+use Rattle.or_words.specs.declared.ExtendKind.{ExtendKind}
 use Rattle.or_words.specs.declared.ExtendKind.TheVariants.{HalfSigned, ByteSigned, HalfZero, ByteZero}
 use Rattle.or_words.specs.declared.CompareCode.{CompareCode}
 use Rattle.or_words.specs.declared.CompareCode.TheVariants.{Eq, Ne, Gtu, Geu, Ltu, Leu, Gts, Ges, Lts, Les}
 use Rattle.or_words.specs.declared.MacKind.{MacKind}
 use Rattle.or_words.specs.declared.MacKind.TheVariants.{Plus, Minus, PlusUnsigned, MinusUnsigned, Set, SetUnsigned}
-use Rattle.or_words.specs.Word.{signed, remainder, exceeds_unsigned, exceeds_signed, unsigned_sum, signed_sum, signed_quotient, quotient_overflows, unsigned_quotient, lowest_one, highest_one}
+use Rattle.or_words.specs.Word.{signed, word_of, remainder, exceeds_unsigned, exceeds_signed, unsigned_sum, signed_sum, signed_quotient, quotient_overflows, unsigned_quotient, lowest_one, highest_one}
 use Rattle.or_words.specs.Kind.{shifted, extended, compares, accumulated}
 use Rattle.or_parts.specs.declared.Cause.{Cause}
 use Rattle.or_parts.specs.declared.Cause.TheVariants.{Range, Syscall, Illegal, Trap as TrapCause}
@@ -62,6 +64,29 @@ put_product core d a b = put_with_overflow core d (a * b % 2 ^ 32) (exceeds_sign
 unfoldable pub put_quotient : Core → ℕ → ℕ → ℕ → Result Core Cause
 put_quotient core d a b = put_with_overflow core d (signed_quotient a b) (quotient_overflows a b)
 
+unfoldable pub put_unsigned_quotient : Core → ℕ → ℕ → ℕ → Core
+put_unsigned_quotient core d a b = put_with_carry core d (unsigned_quotient a b) (b == 0)
+
+unfoldable pub put_unsigned_product : Core → ℕ → ℕ → ℕ → Core
+put_unsigned_product core d a b = put_with_carry core d (a * b % 2 ^ 32) (exceeds_unsigned (a * b))
+
+unfoldable pub put_shifted : Core → ℕ → ShiftKind → ℕ → ℕ → Core
+put_shifted core d kind a n = put core d (shifted kind a n)
+
+unfoldable pub put_extended : Core → ℕ → ExtendKind → ℕ → Core
+put_extended core d kind a = put core d (extended kind a)
+
+-- the place of the lowest and of the highest one bit
+unfoldable pub put_lowest_one : Core → ℕ → ℕ → Core
+put_lowest_one core d a = put core d (lowest_one a)
+
+unfoldable pub put_highest_one : Core → ℕ → ℕ → Core
+put_highest_one core d a = put core d (highest_one a)
+
+-- one of two words, by the flag F
+unfoldable pub put_chosen : Core → ℕ → ℕ → ℕ → Core
+put_chosen core d a b = put core d (if flag core then a else b)
+
 -- the flag F
 unfoldable pub put_flag : Core → Bool → Core
 put_flag core f = next_instruction (record core { sr = with_bits core.sr 0x200 f })
@@ -82,7 +107,7 @@ unfoldable pub accumulator_read : Core → ℕ → Core
 accumulator_read core d = put (record core { machi = 0; maclo = 0 }) d core.maclo
 
 -- the destination of a jump by so many words
-abbrev pub destination : Core → ℤ → ℕ
+unfoldable pub destination : Core → ℤ → ℕ
 destination core n = plus core.pc (cast_unsigned w32 (n *ℤ pos 4))
 
 -- a branch sets its delay slot's destination whether it is taken or not
@@ -94,8 +119,8 @@ unfoldable pub called : Core → ℕ → Core
 called core to = branched (set_register core 9 (plus core.pc 8)) to
 
 -- a page's address, by pages from that of pc
-abbrev pub page_address : Core → ℤ → ℕ
-page_address core n = plus (core.pc - core.pc % 8192) (cast_unsigned w32 (n *ℤ pos 8192))
+unfoldable pub page_address : Core → ℤ → ℕ
+page_address core n = plus (core.pc - core.pc % 8192) (word_of (n *ℤ pos 8192))
 
 -- l.nop 1 stops the core with r3
 unfoldable pub after_nop : Core → ℕ → Core
@@ -127,10 +152,10 @@ executed (Muli d a i) core = put_product core d (register core a) (immediate i)
 executed (Andi d a k) core = Ok (put core d (bit_and (register core a) k))
 executed (Ori d a k) core = Ok (put core d (bit_or (register core a) k))
 executed (Mfspr d a k) core = Ok (put core d (special core (bit_or (register core a) k)))
-executed (Slli d a l) core = Ok (put core d (shifted Lower (register core a) l))
-executed (Srli d a l) core = Ok (put core d (shifted Upper (register core a) l))
-executed (Srai d a l) core = Ok (put core d (shifted Arithmetic (register core a) l))
-executed (Rori d a l) core = Ok (put core d (shifted Rotate (register core a) l))
+executed (Slli d a l) core = Ok (put_shifted core d Lower (register core a) l)
+executed (Srli d a l) core = Ok (put_shifted core d Upper (register core a) l)
+executed (Srai d a l) core = Ok (put_shifted core d Arithmetic (register core a) l)
+executed (Rori d a l) core = Ok (put_shifted core d Rotate (register core a) l)
 executed (Sfeqi a i) core = Ok (put_comparison core Eq (register core a) (immediate i))
 executed (Sfnei a i) core = Ok (put_comparison core Ne (register core a) (immediate i))
 executed (Sfgtui a i) core = Ok (put_comparison core Gtu (register core a) (immediate i))
@@ -152,23 +177,23 @@ executed (Sub d a b) core = put_difference core d (register core a) (register co
 executed (And d a b) core = Ok (put core d (bit_and (register core a) (register core b)))
 executed (Or d a b) core = Ok (put core d (bit_or (register core a) (register core b)))
 executed (Xor d a b) core = Ok (put core d (bit_xor (register core a) (register core b)))
-executed (Cmov d a b) core = Ok (put core d (if flag core then register core a else register core b))
+executed (Cmov d a b) core = Ok (put_chosen core d (register core a) (register core b))
 executed (Mul d a b) core = put_product core d (register core a) (register core b)
 executed (Div d a b) core = put_quotient core d (register core a) (register core b)
-executed (Divu d a b) core = Ok (put_with_carry core d (unsigned_quotient (register core a) (register core b)) (register core b == 0))
-executed (Mulu d a b) core = Ok (put_with_carry core d (register core a * register core b % 2 ^ 32) (exceeds_unsigned (register core a * register core b)))
-executed (Sll d a b) core = Ok (put core d (shifted Lower (register core a) (register core b)))
-executed (Srl d a b) core = Ok (put core d (shifted Upper (register core a) (register core b)))
-executed (Sra d a b) core = Ok (put core d (shifted Arithmetic (register core a) (register core b)))
-executed (Ror d a b) core = Ok (put core d (shifted Rotate (register core a) (register core b)))
+executed (Divu d a b) core = Ok (put_unsigned_quotient core d (register core a) (register core b))
+executed (Mulu d a b) core = Ok (put_unsigned_product core d (register core a) (register core b))
+executed (Sll d a b) core = Ok (put_shifted core d Lower (register core a) (register core b))
+executed (Srl d a b) core = Ok (put_shifted core d Upper (register core a) (register core b))
+executed (Sra d a b) core = Ok (put_shifted core d Arithmetic (register core a) (register core b))
+executed (Ror d a b) core = Ok (put_shifted core d Rotate (register core a) (register core b))
 executed (Muld a b) core = Ok (put_accumulator core Set (register core a) (register core b))
 executed (Muldu a b) core = Ok (put_accumulator core SetUnsigned (register core a) (register core b))
-executed (Ff1 d a) core = Ok (put core d (lowest_one (register core a)))
-executed (Fl1 d a) core = Ok (put core d (highest_one (register core a)))
-executed (Exths d a) core = Ok (put core d (extended HalfSigned (register core a)))
-executed (Extbs d a) core = Ok (put core d (extended ByteSigned (register core a)))
-executed (Exthz d a) core = Ok (put core d (extended HalfZero (register core a)))
-executed (Extbz d a) core = Ok (put core d (extended ByteZero (register core a)))
+executed (Ff1 d a) core = Ok (put_lowest_one core d (register core a))
+executed (Fl1 d a) core = Ok (put_highest_one core d (register core a))
+executed (Exths d a) core = Ok (put_extended core d HalfSigned (register core a))
+executed (Extbs d a) core = Ok (put_extended core d ByteSigned (register core a))
+executed (Exthz d a) core = Ok (put_extended core d HalfZero (register core a))
+executed (Extbz d a) core = Ok (put_extended core d ByteZero (register core a))
 executed (Extws d a) core = Ok (put core d (register core a))
 executed (Extwz d a) core = Ok (put core d (register core a))
 executed (Sfeq a b) core = Ok (put_comparison core Eq (register core a) (register core b))

@@ -8,3 +8,5 @@ pub mod SpecialAccess
 pub mod Execute
 pub mod Step
 pub mod Turn
+pub mod Counts
+pub mod Trace

@@ -5,6 +5,8 @@ ghost use Rattle.std.specs.Prelude.{◌≡◌, ◌≤◌, ◌<◌, ◌^◌, ◌+
 ghost use Rattle.std.specs.Fmt.{digit_glyph, digits, signed_decimal};
 ghost use Rattle.or_text.specs.Hexadecimal.{hexadecimal, word_text, digest_text};
 
+pub mod numerals;
+
 use std::alloc::AllocError;
 
 /// Appends a number in decimal, without leading zeros.
@@ -108,6 +110,24 @@ pub fn append_digest(bytes: &[u8], out: &mut Vec<u8>) -> Result<(), AllocError>
 mod tests {
     use super::*;
     use std::alloc::Global;
+
+    // Numbers in decimal, without leading zeros and of 32 bits.
+    #[test]
+    fn numerals(rt: HostRuntime) {
+        let cases: [(&[u8], Option<u32>); 7] = [
+            (b"0", Some(0)),
+            (b"67108864", Some(67_108_864)),
+            (b"4294967295", Some(4_294_967_295)),
+            (b"4294967296", None),
+            (b"01", None),
+            (b"", None),
+            (b"+1", None),
+        ];
+        for (text, number) in cases {
+            assert_eq!(rt; numerals::read_decimal(text), number);
+        }
+        assert_eq!(rt; numerals::size(16, b"fFfFfFfFfF"), Some(0x1_0000_0000));
+    }
 
     // What the calls append.
     #[test]

@@ -1,0 +1,5 @@
+pub mod First
+pub mod Lines
+pub mod Pairs
+pub mod Program
+pub mod Source

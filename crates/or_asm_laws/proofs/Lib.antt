@@ -1,0 +1,11 @@
+pub mod ApartPieces
+pub mod Lines
+pub mod Numbers
+pub mod Numerals
+pub mod Operands
+pub mod Places
+pub mod Readings
+pub mod Sources
+pub mod Spelled
+pub mod Spellings
+pub mod Statements

@@ -1,0 +1,172 @@
+-- What is found is in its range.
+use Rattle.std.proofs.Common.{◌≡◌, refl, sym, ℕ, ◌^◌, ◌<◌, ℤ, pos, negsuc, Bool, true, false, cond, ◌&&◌, ◌%◌, ◌/◌, codes, leb, ltb, eqb, List, [], ◌∷◌, Option, Some, None, Result, Ok, Err, subst, arith}
+use Rattle.std.proofs.lemmas.Bool.Decides.{nat_tests}
+use Rattle.or_isa.specs.Fits.{Fits, IsSigned}
+use Rattle.or_asm_text.specs.declared.mnemonic.Mnemonic.{Mnemonic}
+use Rattle.or_asm_text.specs.declared.operands.Operands.{Operands}
+use Rattle.or_asm_text.specs.declared.operands.Slot.{Slot}
+use Rattle.or_asm_text.specs.declared.operands.Slot.TheVariants.{D, A, B, Signed, Half, HighHalf, LowHalf, Shift, Page, Target, Memory}
+use Rattle.or_asm_text.specs.Parts.{operands_with, natural, insn_of}
+use Rattle.or_asm_text.specs.Slots.{slots_of}
+use Rattle.or_asm_text.specs.Ranges.{RegistersFit, ValueFits}
+use Rattle.or_asm_text.proofs.Parts.{fits}
+use Rattle.std.specs.Prelude.{not}
+use Rattle.std.specs.Str.Parse.{digits_value}
+use Rattle.or_asm_read.specs.declared.fault.Fault.{Fault}
+use Rattle.or_asm_read.specs.declared.fault.Fault.TheVariants.{BadLine, OutOfRange}
+use Rattle.or_asm_read.specs.declared.operands.Operand.{Operand}
+use Rattle.or_asm_read.specs.Cuts.{trimmed, before, after}
+use Rattle.or_asm_read.specs.Faults.{lesser_fault}
+use Rattle.or_asm_read.specs.Numbers.{are_digits, has_leading_zero, number_of, register_of}
+use Rattle.or_asm_read.specs.Operands.{int_le, within, ranged, as_value, register_at, number_at, half_at, half_or, before_bracket, in_brackets, is_bracketed, value_at, offset_of, quarter, jump_at, address_operand, memory_at, slot_at, placed, is_empty, operands_at}
+use Rattle.or_asm_read.specs.Labels.{Labels, place_of}
+
+abbrev Gives : {X : Type 0} → (X → Type 0) → Result X Fault → Type 0
+Gives P (Ok x) = P x
+Gives P (Err e) = Unit {0}
+
+-- an operand whose register is one, and whose number is as P says
+record Holds (P : ℤ → Type 0) (x : Operand) : Type 0 where
+  register : x.register < 2 ^ 5
+  value : P x.value
+
+-- the range of the number at a place
+abbrev SlotValue : Slot → ℤ → Type 0
+SlotValue D z = Unit {0}
+SlotValue A z = Unit {0}
+SlotValue B z = Unit {0}
+SlotValue Signed z = IsSigned 15 z
+SlotValue Half z = natural z < 2 ^ 16
+SlotValue HighHalf z = natural z < 2 ^ 16
+SlotValue LowHalf z = natural z < 2 ^ 16
+SlotValue Shift z = natural z < 2 ^ 6
+SlotValue Page z = IsSigned 20 z
+SlotValue Target z = IsSigned 25 z
+SlotValue Memory z = IsSigned 15 z
+
+AllIn : ℤ → ℤ → (ℤ → Type 0) → Type 0
+AllIn low high P = (z : ℤ) → int_le low z ≡ true → int_le z high ≡ true → P z
+
+within_of : (P : ℤ → Type 0) (a b : Bool) (z : ℤ) → (a ≡ true → b ≡ true → P z) → Gives (Holds P) (as_value (cond (a && b) (Ok z) (Err OutOfRange)))
+within_of P true true z h = record { register = omega arith; value = h refl refl }
+within_of P _ _ z h = tt
+
+within_gives : (P : ℤ → Type 0) (low high z : ℤ) → AllIn low high P → Gives (Holds P) (as_value (within low high z))
+unfolding AllIn
+within_gives P low high z h = within_of P (int_le low z) (int_le z high) z (h z)
+
+number_gives : (P : ℤ → Type 0) (low high : ℤ) (o : Option ℤ) → AllIn low high P → Gives (Holds P) (as_value (ranged low high o))
+number_gives P low high None h = tt
+number_gives P low high (Some z) h = within_gives P low high z h
+
+signed_15 : AllIn (negsuc 32767) (pos 32767) (IsSigned 15)
+unfolding AllIn
+signed_15 (pos n) low high = grind (arith, nat_tests)
+signed_15 (negsuc n) low high = grind (arith, nat_tests)
+
+signed_20 : AllIn (negsuc 1048575) (pos 1048575) (IsSigned 20)
+unfolding AllIn
+signed_20 (pos n) low high = grind (arith, nat_tests)
+signed_20 (negsuc n) low high = grind (arith, nat_tests)
+
+signed_25 : AllIn (negsuc 33554431) (pos 33554431) (IsSigned 25)
+unfolding AllIn
+signed_25 (pos n) low high = grind (arith, nat_tests)
+signed_25 (negsuc n) low high = grind (arith, nat_tests)
+
+natural_16 : AllIn (pos 0) (pos 65535) (λ z. natural z < 2 ^ 16)
+unfolding AllIn
+natural_16 (pos n) low high = grind (arith, nat_tests)
+natural_16 (negsuc n) low high = omega arith
+
+natural_6 : AllIn (pos 0) (pos 63) (λ z. natural z < 2 ^ 6)
+unfolding AllIn
+natural_6 (pos n) low high = grind (arith, nat_tests)
+natural_6 (negsuc n) low high = omega arith
+
+-- a register that is found is below 32
+below_of : (a b l d : Bool) (n : ℕ) → (l ≡ true → n < 2 ^ 5) → Gives (Holds (λ z. Unit {0})) (register_at (cond (a && b && l && d) (Some n) None))
+below_of true true true true n h = record { register = h refl; value = tt }
+below_of _ _ _ _ n h = tt
+
+small_digits : (cs : List ℕ) → ltb (digits_value 10 cs) 32 ≡ true → digits_value 10 cs < 2 ^ 5
+small_digits cs e = grind (arith, nat_tests)
+
+register_gives : (text : List ℕ) → Gives (Holds (λ z. Unit {0})) (register_at (register_of text))
+unfolding register_of
+register_gives [] = tt
+register_gives (c ∷ cs) = below_of (eqb c 114) (are_digits 10 cs) (ltb (digits_value 10 cs) 32) (not (has_leading_zero cs)) (digits_value 10 cs) (small_digits cs)
+
+half_gives : (part : ℕ → ℕ) (o : Option ℕ) → Gives (Holds (λ z. natural z < 2 ^ 16)) (half_at part o)
+half_gives part None = tt
+half_gives part (Some place) = within_gives _ (pos 0) (pos 65535) (pos (part place)) natural_16
+
+one_of : {X : Type 0} (P : X → Type 0) (b : Bool) (x y : Result X Fault) → Gives P x → Gives P y → Gives P (cond b x y)
+one_of P true x y f g = f
+one_of P false x y f g = g
+
+half_or_gives : (name : List ℕ) (part : ℕ → ℕ) (labels : Labels) (text : List ℕ) → Gives (Holds (λ z. natural z < 2 ^ 16)) (half_or name part labels text)
+half_or_gives name part labels text = one_of (Holds (λ z. natural z < 2 ^ 16)) _ _ _ (half_gives part (place_of labels (in_brackets text))) (number_gives _ (pos 0) (pos 65535) (number_of text) natural_16)
+
+jump_gives : (pc : ℕ) (z : Result ℤ Fault) → Gives (Holds (IsSigned 25)) (jump_at pc z)
+jump_gives pc (Err e) = tt
+jump_gives pc (Ok (negsuc n)) = tt
+jump_gives pc (Ok (pos n)) = one_of (Holds (IsSigned 25)) (leb n 4294967295 && eqb (n % 4) 0) (as_value (within (negsuc 33554431) (pos 33554431) (quarter (offset_of pc n)))) (Err OutOfRange) (within_gives (IsSigned 25) (negsuc 33554431) (pos 33554431) (quarter (offset_of pc n)) signed_25) tt
+
+both_give : (P Q : ℤ → Type 0) (x y : Result Operand Fault) → Gives (Holds P) x → Gives (Holds Q) y → Gives (Holds P) (lesser_fault address_operand x y)
+both_give P Q (Ok x) (Ok y) f g = record { register = g.register; value = f.value }
+both_give P Q (Ok x) (Err e) f g = tt
+both_give P Q (Err e) (Ok y) f g = tt
+both_give P Q (Err e) (Err d) f g = tt
+
+memory_gives : (text : List ℕ) → Gives (Holds (IsSigned 15)) (memory_at text)
+memory_gives text =
+    let number = number_at (negsuc 32767) (pos 32767) (before_bracket text) in
+    let register = register_at (register_of (in_brackets text)) in
+    one_of (Holds (IsSigned 15)) (is_bracketed text) (lesser_fault address_operand number register) (Err BadLine) (both_give (IsSigned 15) (λ z. Unit {0}) number register (number_gives (IsSigned 15) (negsuc 32767) (pos 32767) (number_of (before_bracket text)) signed_15) (register_gives (in_brackets text))) tt
+
+slot_gives : (labels : Labels) (pc : ℕ) (slot : Slot) (text : List ℕ) → Gives (Holds (SlotValue slot)) (slot_at labels pc slot text)
+unfolding slot_at
+slot_gives labels pc D text = register_gives text
+slot_gives labels pc A text = register_gives text
+slot_gives labels pc B text = register_gives text
+slot_gives labels pc Signed text = number_gives _ (negsuc 32767) (pos 32767) (number_of text) signed_15
+slot_gives labels pc Half text = number_gives _ (pos 0) (pos 65535) (number_of text) natural_16
+slot_gives labels pc HighHalf text = half_or_gives (codes "hi") (λ place. place / 65536) labels text
+slot_gives labels pc LowHalf text = half_or_gives (codes "lo") (λ place. place % 65536) labels text
+slot_gives labels pc Shift text = number_gives _ (pos 0) (pos 63) (number_of text) natural_6
+slot_gives labels pc Page text = number_gives _ (negsuc 1048575) (pos 1048575) (number_of text) signed_20
+slot_gives labels pc Target text = jump_gives pc (value_at labels text)
+slot_gives labels pc Memory text = memory_gives text
+
+record Fit (slots : List Slot) (o : Operands) : Type 0 where
+  registers : RegistersFit o
+  value : ValueFits slots o.value
+
+none_fit : Fit [] (operands_with 0 0 0 (pos 0))
+none_fit = record { registers = record { d = omega arith; a = omega arith; b = omega arith }; value = refl }
+
+placed_fit : (slot : Slot) (slots : List Slot) (x : Operand) (o : Operands) → Holds (SlotValue slot) x → Fit slots o → Fit (slot ∷ slots) (placed slot x o)
+placed_fit D slots x o h f = record { registers = record { d = h.register; a = f.registers.a; b = f.registers.b }; value = f.value }
+placed_fit A slots x o h f = record { registers = record { d = f.registers.d; a = h.register; b = f.registers.b }; value = f.value }
+placed_fit B slots x o h f = record { registers = record { d = f.registers.d; a = f.registers.a; b = h.register }; value = f.value }
+placed_fit Memory slots x o h f = record { registers = record { d = f.registers.d; a = h.register; b = f.registers.b }; value = h.value }
+placed_fit _ slots x o h f = record { registers = record { d = f.registers.d; a = f.registers.a; b = f.registers.b }; value = h.value }
+
+joined_fit : (slot : Slot) (slots : List Slot) (x : Result Operand Fault) (o : Result Operands Fault) → Gives (Holds (SlotValue slot)) x → Gives (Fit slots) o → Gives (Fit (slot ∷ slots)) (lesser_fault (placed slot) x o)
+joined_fit slot slots (Ok x) (Ok o) h f = placed_fit slot slots x o h f
+joined_fit slot slots (Ok x) (Err e) h f = tt
+joined_fit slot slots (Err e) (Ok o) h f = tt
+joined_fit slot slots (Err e) (Err d) h f = tt
+
+operands_give : (labels : Labels) (pc : ℕ) (slots : List Slot) (text : List ℕ) → Gives (Fit slots) (operands_at labels pc slots text)
+operands_give labels pc [] text = one_of (Fit []) (is_empty (trimmed text)) (Ok (operands_with 0 0 0 (pos 0))) (Err BadLine) none_fit tt
+operands_give labels pc (slot ∷ []) text = joined_fit slot [] (slot_at labels pc slot (trimmed text)) (Ok (operands_with 0 0 0 (pos 0))) (slot_gives labels pc slot (trimmed text)) none_fit
+operands_give labels pc (slot ∷ next ∷ slots) text = joined_fit slot (next ∷ slots) (slot_at labels pc slot (trimmed (before 44 text))) (operands_at labels pc (next ∷ slots) (after 44 text)) (slot_gives labels pc slot (trimmed (before 44 text))) (operands_give labels pc (next ∷ slots) (after 44 text))
+
+-- operands that are read make an instruction that fits
+pub made_fits : (m : Mnemonic) (o : Operands) (labels : Labels) (pc : ℕ) (text : List ℕ) → Ok o ≡ operands_at labels pc (slots_of m) text → Fits (insn_of m o)
+made_fits m o labels pc text e =
+    let P : Result Operands Fault → Type 0 = Gives (Fit (slots_of m)) in
+    let fit : Fit (slots_of m) o = subst P (sym e) (operands_give labels pc (slots_of m) text) in
+    fits m o fit.registers fit.value

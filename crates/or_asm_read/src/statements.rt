@@ -1,0 +1,128 @@
+// What a statement does.
+ghost use Rattle.std.specs.Prelude.{◌≡◌, ◌≤ℤ◌, pos, negsuc};
+ghost use Rattle.std.specs.Int.{cast_unsigned, w32};
+ghost use Rattle.or_asm_read.specs.Numbers.{number_of};
+ghost use Rattle.or_asm_read.specs.Operands.{value_at, operands_at};
+ghost use Rattle.or_asm_read.specs.Statements.{org_at, word_at, insn_at, made_of, named_at, statement_at, HasLowPlace};
+ghost use Rattle.or_asm_text.specs.Names.{mnemonic_named};
+ghost use Rattle.or_asm_text.specs.Slots.{slots_of};
+
+use crate::cuts::{name, operands, trim};
+use crate::fault::Fault;
+use crate::labels::LabelTable;
+use crate::numbers::number;
+use crate::operands::{is_empty, operands_at, value_at};
+use or_asm_text::mnemonic::{Mnemonic, mnemonic_named};
+use or_asm_text::operands::{insn, slots};
+use or_isa::encode;
+
+/// What a statement does: nothing, it sets the place, or it puts a word.
+#[derive(Clone, Copy)]
+pub enum Statement {
+    Nothing,
+    Place(u32),
+    Word(u32),
+}
+
+/// Where an .org leads.
+pub fn org_at(text: &[u8]) -> Result<Statement, Fault>
+    ensures is { result ≡ org_at (number_of text.now) }
+    ensures low { HasLowPlace result }
+{
+    match number(text) {
+        None => Err(Fault::BadLine),
+        Some(place) => {
+            if 0 <= place && place < 0x1000_0000 && place % 4 == 0 {
+                Ok(Statement::Place(place as u32))
+            } else {
+                Err(Fault::OutOfRange)
+            }
+        }
+    }
+}
+
+fn low_word(value: i64) -> u32
+    requires low { negsuc 2147483647 ≤ℤ value }
+    requires high { value ≤ℤ pos 4294967295 }
+    ensures { result ≡ cast_unsigned w32 value }
+{
+    if value < 0 {
+        (value as i32).cast_unsigned()
+    } else {
+        value as u32
+    }
+}
+
+fn word_at(labels: &LabelTable, text: &[u8]) -> Result<Statement, Fault>
+    ensures is { result ≡ word_at (value_at labels.now text.now) }
+    ensures low { HasLowPlace result }
+{
+    match value_at(labels, text) {
+        Err(fault) => Err(fault),
+        Ok(value) => {
+            if -2_147_483_648 <= value && value <= 4_294_967_295 {
+                Ok(Statement::Word(low_word(value)))
+            } else {
+                Err(Fault::OutOfRange)
+            }
+        }
+    }
+}
+
+#[tactic(auto, using(crate::proofs::Found::made_fits))]
+fn insn_at(
+    labels: &LabelTable,
+    pc: u32,
+    mnemonic: Mnemonic,
+    text: &[u8],
+) -> Result<Statement, Fault>
+    ensures is { result ≡ made_of mnemonic (operands_at labels.now pc (slots_of mnemonic) text.now) }
+    ensures low { HasLowPlace result }
+{
+    match operands_at(labels, pc, slots(mnemonic), text) {
+        Ok(operands) => Ok(Statement::Word(encode(&insn(mnemonic, &operands)))),
+        Err(fault) => Err(fault),
+    }
+}
+
+fn instruction_at(
+    labels: &LabelTable,
+    pc: u32,
+    name: &[u8],
+    text: &[u8],
+) -> Result<Statement, Fault>
+    ensures is { result ≡ insn_at labels.now pc (mnemonic_named name.now) text.now }
+    ensures low { HasLowPlace result }
+{
+    match mnemonic_named(name) {
+        Some(mnemonic) => insn_at(labels, pc, mnemonic, text),
+        None => Err(Fault::UnknownName),
+    }
+}
+
+#[tactic(auto, unfolding(crate::specs::Statements::named_at))]
+fn named_at(labels: &LabelTable, pc: u32, name: &[u8], text: &[u8]) -> Result<Statement, Fault>
+    ensures is { result ≡ named_at labels.now pc name.now text.now }
+    ensures low { HasLowPlace result }
+{
+    if name == b".org".as_slice() {
+        org_at(trim(text))
+    } else if name == b".word".as_slice() {
+        word_at(labels, trim(text))
+    } else {
+        instruction_at(labels, pc, name, text)
+    }
+}
+
+/// What a statement does, or its least fault.
+#[tactic(auto, unfolding(crate::specs::Statements::statement_at))]
+pub fn statement_at(labels: &LabelTable, pc: u32, statement: &[u8]) -> Result<Statement, Fault>
+    ensures is { result ≡ statement_at labels.now pc statement.now }
+    ensures low { HasLowPlace result }
+{
+    if is_empty(statement) {
+        Ok(Statement::Nothing)
+    } else {
+        named_at(labels, pc, name(statement), operands(statement))
+    }
+}

@@ -1,0 +1,5 @@
+use Rattle.or_asm_text.proofs.Parts.{each_named}
+use Rattle.or_asm_text.proofs.operands.names_differ.Goals as goal
+
+pub returns : goal.returns
+returns c = each_named

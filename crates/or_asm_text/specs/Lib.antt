@@ -1,0 +1,5 @@
+pub mod Parts
+pub mod Names
+pub mod Ranges
+pub mod Slots
+pub mod Texts

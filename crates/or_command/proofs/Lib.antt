@@ -1,0 +1,6 @@
+pub mod TellsLemmas
+pub mod SaysLemmas
+pub mod WritesLemmas
+pub mod LoadsLemmas
+pub mod OutcomesLemmas
+pub mod CompleteLemmas

@@ -1,0 +1,257 @@
+-- From the parts of a command to its outcome, and from its outcome to what the files come to by themselves.
+use Rattle.std.proofs.Common.{◌≡◌, ◌∙◌, sym, subst, ℕ, List, [], ◌∷◌, ◌++◌, ◌+◌, Option, Some, None, true, inl, inr}
+use Rattle.or_host.specs.Bytes.{Adds, AddsPrefix}
+use Rattle.or_host.specs.Told.{TellsSame, IsPrefixOfFile}
+use Rattle.or_host.specs.Counts.{Rose}
+use Rattle.or_host.specs.HostState.{HostState}
+use Rattle.or_host.specs.Calls.{dash}
+use Rattle.or_host.specs.declared.host.Deed.{Deed}
+use Rattle.or_host.specs.declared.host.Deed.TheVariants.{Write, Load as Loading}
+use Rattle.or_command.specs.declared.loading.LoadStop.{LoadStop}
+use Rattle.or_command.specs.declared.loading.LoadStop.TheVariants.{Unread, TooLong, NoMemory}
+use Rattle.or_command.specs.Leaves.{Untouched, NoFault, FaultOf, Silent}
+use Rattle.or_command.specs.Writes.{File, AllHold, IsOther, AllWritten, WriteStopped}
+use Rattle.or_command.specs.Loads.{Load, AreRead, AllRead, StopsLoading}
+use Rattle.or_command.specs.Said.{OnlySays, SaidLine}
+use Rattle.or_command.specs.Ends.{FailedCheck, CommandEnd, done, unread, too_long, refused, unwritten, no_memory, line_of}
+use Rattle.or_command.specs.Outcomes.{LeavesAll, AreApart, CommandOutcome, CommandRuns}
+use Rattle.or_command.proofs.TellsLemmas.{same_then, told_then, same_then_step, step_then_same, same_then_part, part_then_same, rose_after, untouched_then, no_fault_then}
+use Rattle.or_command.proofs.SaysLemmas.{line_after_silence}
+
+-- what was read stays read where no name changes
+read_stays : (loads : List Load) (files : List (List ℕ)) (b c : HostState) → ((name : List ℕ) → TellsSame (b.holds name) (c.holds name)) → AreRead loads files b → AreRead loads files c
+read_stays [] [] b c same read = tt
+read_stays [] (file ∷ files) b c same read = absurd read
+read_stays (load ∷ loads) [] b c same read = absurd read
+read_stays (load ∷ loads) (file ∷ files) b c same read =
+    (told_then (λ content. content ≡ Some file) (b.holds load.name) (c.holds load.name) (same load.name) read.0, read.1, read_stays loads files b c same read.2)
+
+-- what was read stays read where other files are written
+read_apart : (loads : List Load) (files : List (List ℕ)) (outs : List File) (b c : HostState) → AreApart loads outs
+    → ((name : List ℕ) → IsOther name outs → TellsSame (b.holds name) (c.holds name)) → AreRead loads files b → AreRead loads files c
+read_apart [] [] outs b c apart same read = tt
+read_apart [] (file ∷ files) outs b c apart same read = absurd read
+read_apart (load ∷ loads) [] outs b c apart same read = absurd read
+read_apart (load ∷ loads) (file ∷ files) outs b c apart same read =
+    (told_then (λ content. content ≡ Some file) (b.holds load.name) (c.holds load.name) (same load.name apart.0) read.0, read.1, read_apart loads files outs b c apart.1 same read.2)
+
+split_other : (name : List ℕ) (front : List File) (failed : File) (rest : List File) → IsOther name (front ++ failed ∷ rest) → IsOther name front × (name ≡ failed.name → ⊥)
+split_other name [] failed rest h = (tt, h.0)
+split_other name (f ∷ front) failed rest h = let later = split_other name front failed rest h.1 in ((h.0, later.0), later.1)
+
+fault_after : (name : List ℕ) (a b c : HostState) → NoFault a b → FaultOf Write name b c → FaultOf Write name a c
+fault_after name a b c ab bc = record { rose = rose_after a.faults b.faults c.faults (sym ab.faults) bc.rose; blame = bc.blame }
+
+stopped_same : (outs : List File) (console name : List ℕ) (b c : HostState) → WriteStopped outs console name b c → (other : List ℕ) → IsOther other outs → TellsSame (b.holds other) (c.holds other)
+stopped_same outs console name b c (inl at) other is_other =
+    let apart = split_other other at.front at.failed at.rest (subst (IsOther other) at.order is_other) in at.others other apart.0 apart.1
+stopped_same outs console name b c (inr at) other is_other = at.1.others other is_other
+
+written_after : (outs : List File) (console : List ℕ) (a b c : HostState) → (Untouched a b × NoFault a b) → AllWritten outs console b c → AllWritten outs console a c
+written_after outs console a b c ab bc = record {
+  whole = bc.whole;
+  others = λ name other. same_then (a.holds name) (b.holds name) (c.holds name) (ab.0.names name) (bc.others name other);
+  written = same_then_step (Adds console) a.written b.written c.written ab.0.written bc.written;
+  no_fault = no_fault_then a b c ab.1 bc.no_fault;
+}
+
+stopped_after : (outs : List File) (console name : List ℕ) (a b c : HostState) → (Untouched a b × NoFault a b) → WriteStopped outs console name b c → WriteStopped outs console name a c
+stopped_after outs console name a b c ab (inl at) = inl (record {
+  front = at.front;
+  failed = at.failed;
+  rest = at.rest;
+  order = at.order;
+  named = at.named;
+  whole = at.whole;
+  part = same_then_part at.failed.text (a.holds at.failed.name) (b.holds at.failed.name) (c.holds at.failed.name) (ab.0.names at.failed.name) at.part;
+  others = λ other x y. same_then (a.holds other) (b.holds other) (c.holds other) (ab.0.names other) (at.others other x y);
+  written = same_then a.written b.written c.written ab.0.written at.written;
+  cause = fault_after at.failed.name a b c ab.1 at.cause;
+})
+stopped_after outs console name a b c ab (inr at) = inr (
+  at.0,
+  record {
+    whole = at.1.whole;
+    others = λ other x. same_then (a.holds other) (b.holds other) (c.holds other) (ab.0.names other) (at.1.others other x);
+    written = same_then_step (AddsPrefix console) a.written b.written c.written ab.0.written at.1.written;
+    cause = fault_after dash a b c ab.1 at.1.cause;
+  },
+)
+
+-- what a stop of the loads comes to
+abbrev pub end_of_stop : LoadStop → CommandEnd
+end_of_stop (Unread name) = unread name.now
+end_of_stop (TooLong name limit) = too_long name.now limit
+end_of_stop NoMemory = no_memory
+
+-- a command that stops at its loads
+pub stop_outcome : (loads : List Load) (verdict : List (List ℕ) → Option FailedCheck) (Writes : List (List ℕ) → List File → List ℕ → Type 0)
+    (Lacking : HostState → HostState → Type 0) (stop : LoadStop) (before : List (List ℕ)) (a b : HostState)
+    → (LeavesAll a b → Lacking a b) → StopsLoading loads stop before a b → CommandOutcome loads verdict Writes Lacking (end_of_stop stop) a b
+stop_outcome loads verdict Writes Lacking (Unread name) before a b lacking stops = record { before = before; stopped = stops }
+stop_outcome loads verdict Writes Lacking (TooLong name limit) before a b lacking stops = record { before = before; stopped = stops }
+stop_outcome loads verdict Writes Lacking NoMemory before a b lacking stops = lacking (record { untouched = stops.untouched; no_fault = stops.no_fault })
+
+-- a command that refuses what it loaded
+pub refusal_outcome : (loads : List Load) (verdict : List (List ℕ) → Option FailedCheck) (Writes : List (List ℕ) → List File → List ℕ → Type 0)
+    (Lacking : HostState → HostState → Type 0) (files : List (List ℕ)) (fault : FailedCheck) (a b : HostState)
+    → AllRead loads files a b → verdict files ≡ Some fault → CommandOutcome loads verdict Writes Lacking (refused fault) a b
+refusal_outcome loads verdict Writes Lacking files fault a b all found =
+    record { files = files; read = all.read; found = found; untouched = all.untouched; no_fault = all.no_fault }
+
+-- a command that finds no memory behind its loads
+pub memory_outcome : (loads : List Load) (verdict : List (List ℕ) → Option FailedCheck) (Writes : List (List ℕ) → List File → List ℕ → Type 0)
+    (files : List (List ℕ)) (a b : HostState) → AllRead loads files a b → CommandOutcome loads verdict Writes LeavesAll no_memory a b
+memory_outcome loads verdict Writes files a b all = record { untouched = all.untouched; no_fault = all.no_fault }
+
+-- a command that writes all
+pub done_outcome : (loads : List Load) (verdict : List (List ℕ) → Option FailedCheck) (Writes : List (List ℕ) → List File → List ℕ → Type 0)
+    (Lacking : HostState → HostState → Type 0) (files : List (List ℕ)) (outs : List File) (console : List ℕ) (a b c : HostState)
+    → AreApart loads outs → AllRead loads files a b → verdict files ≡ None → Writes files outs console → AllWritten outs console b c
+    → CommandOutcome loads verdict Writes Lacking done a c
+done_outcome loads verdict Writes Lacking files outs console a b c apart all sound writes out = record {
+  files = files;
+  read = read_apart loads files outs b c apart out.others all.read;
+  sound = sound;
+  outs = outs;
+  console = console;
+  writes = writes;
+  out = written_after outs console a b c (all.untouched, all.no_fault) out;
+}
+
+-- a command whose write fails
+pub unwritten_outcome : (loads : List Load) (verdict : List (List ℕ) → Option FailedCheck) (Writes : List (List ℕ) → List File → List ℕ → Type 0)
+    (Lacking : HostState → HostState → Type 0) (files : List (List ℕ)) (outs : List File) (console name : List ℕ) (a b c : HostState)
+    → AreApart loads outs → AllRead loads files a b → verdict files ≡ None → Writes files outs console → WriteStopped outs console name b c
+    → CommandOutcome loads verdict Writes Lacking (unwritten name) a c
+unwritten_outcome loads verdict Writes Lacking files outs console name a b c apart all sound writes stopped = record {
+  files = files;
+  read = read_apart loads files outs b c apart (stopped_same outs console name b c stopped) all.read;
+  sound = sound;
+  outs = outs;
+  console = console;
+  writes = writes;
+  stopped = stopped_after outs console name a b c (all.untouched, all.no_fault) stopped;
+}
+
+said_untouched : (a b c : HostState) → Untouched a b → OnlySays b c → Untouched a c
+said_untouched a b c ab bc = untouched_then a b c ab (record { names = bc.names; written = bc.written })
+
+said_no_fault : (a b c : HostState) → NoFault a b → OnlySays b c → NoFault a c
+said_no_fault a b c ab bc = record { faults = bc.faults ∙ ab.faults; blame = bc.blame ∙ ab.blame }
+
+said_fault : (deed : Deed) (name : List ℕ) (a b c : HostState) → FaultOf deed name a b → OnlySays b c → FaultOf deed name a c
+said_fault deed name a b c ab bc = record {
+  rose = subst (λ (n : ℕ). Rose a.faults n) (sym bc.faults) ab.rose;
+  blame = bc.blame ∙ ab.blame;
+}
+
+-- nothing of what a command leaves alone is touched by what is said
+pub said_leaves_all : (a b c : HostState) → LeavesAll a b → OnlySays b c → LeavesAll a c
+said_leaves_all a b c ab bc = record { untouched = said_untouched a b c ab.untouched bc; no_fault = said_no_fault a b c ab.no_fault bc }
+
+said_hold : (files : List File) (b c : HostState) → OnlySays b c → AllHold b files → AllHold c files
+said_hold [] b c only whole = tt
+said_hold (file ∷ files) b c only whole =
+    (told_then (λ content. content ≡ Some file.text) (b.holds file.name) (c.holds file.name) (only.names file.name) whole.0, said_hold files b c only whole.1)
+
+said_written : (outs : List File) (console : List ℕ) (a b c : HostState) → AllWritten outs console a b → OnlySays b c → AllWritten outs console a c
+said_written outs console a b c ab bc = record {
+  whole = said_hold outs b c bc ab.whole;
+  others = λ name other. same_then (a.holds name) (b.holds name) (c.holds name) (ab.others name other) (bc.names name);
+  written = step_then_same (Adds console) a.written b.written c.written ab.written bc.written;
+  no_fault = said_no_fault a b c ab.no_fault bc;
+}
+
+said_stopped : (outs : List File) (console name : List ℕ) (a b c : HostState) → WriteStopped outs console name a b → OnlySays b c → WriteStopped outs console name a c
+said_stopped outs console name a b c (inl at) bc = inl (record {
+  front = at.front;
+  failed = at.failed;
+  rest = at.rest;
+  order = at.order;
+  named = at.named;
+  whole = said_hold at.front b c bc at.whole;
+  part = part_then_same at.failed.text (a.holds at.failed.name) (b.holds at.failed.name) (c.holds at.failed.name) at.part (bc.names at.failed.name);
+  others = λ other x y. same_then (a.holds other) (b.holds other) (c.holds other) (at.others other x y) (bc.names other);
+  written = same_then a.written b.written c.written at.written bc.written;
+  cause = said_fault Write at.failed.name a b c at.cause bc;
+})
+said_stopped outs console name a b c (inr at) bc = inr (
+  at.0,
+  record {
+    whole = said_hold outs b c bc at.1.whole;
+    others = λ other x. same_then (a.holds other) (b.holds other) (c.holds other) (at.1.others other x) (bc.names other);
+    written = step_then_same (AddsPrefix console) a.written b.written c.written at.1.written bc.written;
+    cause = said_fault Write dash a b c at.1.cause bc;
+  },
+)
+
+-- what an outcome says stays true where only something is said
+said_outcome : (loads : List Load) (verdict : List (List ℕ) → Option FailedCheck) (Writes : List (List ℕ) → List File → List ℕ → Type 0)
+    (Lacking : HostState → HostState → Type 0) (end : CommandEnd) (a b c : HostState) → (Lacking a b → Lacking a c)
+    → CommandOutcome loads verdict Writes Lacking end a b → OnlySays b c → CommandOutcome loads verdict Writes Lacking end a c
+said_outcome loads verdict Writes Lacking done a b c lacking outcome bc = record {
+  files = outcome.files;
+  read = read_stays loads outcome.files b c bc.names outcome.read;
+  sound = outcome.sound;
+  outs = outcome.outs;
+  console = outcome.console;
+  writes = outcome.writes;
+  out = said_written outcome.outs outcome.console a b c outcome.out bc;
+}
+said_outcome loads verdict Writes Lacking (unread name) a b c lacking outcome bc = record {
+  before = outcome.before;
+  stopped = record {
+    front = outcome.stopped.front;
+    load = outcome.stopped.load;
+    rest = outcome.stopped.rest;
+    order = outcome.stopped.order;
+    named = outcome.stopped.named;
+    read = read_stays outcome.stopped.front outcome.before b c bc.names outcome.stopped.read;
+    cause = said_fault Loading outcome.stopped.load.name a b c outcome.stopped.cause bc;
+    untouched = said_untouched a b c outcome.stopped.untouched bc;
+  };
+}
+said_outcome loads verdict Writes Lacking (too_long name limit) a b c lacking outcome bc = record {
+  before = outcome.before;
+  stopped = record {
+    front = outcome.stopped.front;
+    load = outcome.stopped.load;
+    rest = outcome.stopped.rest;
+    order = outcome.stopped.order;
+    named = outcome.stopped.named;
+    limited = outcome.stopped.limited;
+    read = read_stays outcome.stopped.front outcome.before b c bc.names outcome.stopped.read;
+    taken = outcome.stopped.taken;
+    long = outcome.stopped.long;
+    told = told_then (IsPrefixOfFile outcome.stopped.taken) (b.holds outcome.stopped.load.name) (c.holds outcome.stopped.load.name) (bc.names outcome.stopped.load.name) outcome.stopped.told;
+    untouched = said_untouched a b c outcome.stopped.untouched bc;
+    no_fault = said_no_fault a b c outcome.stopped.no_fault bc;
+  };
+}
+said_outcome loads verdict Writes Lacking (refused fault) a b c lacking outcome bc = record {
+  files = outcome.files;
+  read = read_stays loads outcome.files b c bc.names outcome.read;
+  found = outcome.found;
+  untouched = said_untouched a b c outcome.untouched bc;
+  no_fault = said_no_fault a b c outcome.no_fault bc;
+}
+said_outcome loads verdict Writes Lacking (unwritten name) a b c lacking outcome bc = record {
+  files = outcome.files;
+  read = read_stays loads outcome.files b c bc.names outcome.read;
+  sound = outcome.sound;
+  outs = outcome.outs;
+  console = outcome.console;
+  writes = outcome.writes;
+  stopped = said_stopped outcome.outs outcome.console name a b c outcome.stopped bc;
+}
+said_outcome loads verdict Writes Lacking no_memory a b c lacking outcome bc = lacking outcome
+
+-- a command's work, which says nothing, and then its line
+pub concluded : (loads : List Load) (verdict : List (List ℕ) → Option FailedCheck) (Writes : List (List ℕ) → List File → List ℕ → Type 0)
+    (Lacking : HostState → HostState → Type 0) (end : CommandEnd) (a b c : HostState) → (Lacking a b → Lacking a c)
+    → CommandOutcome loads verdict Writes Lacking end a b → Silent a b → SaidLine (line_of end) b c → OnlySays b c → CommandRuns loads verdict Writes Lacking end a c
+concluded loads verdict Writes Lacking end a b c lacking outcome silent line only = record {
+  outcome = said_outcome loads verdict Writes Lacking end a b c lacking outcome only;
+  said = line_after_silence (line_of end) a b c silent line;
+}

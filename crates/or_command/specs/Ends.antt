@@ -1,0 +1,52 @@
+-- What a command comes to: its status, and the line that is said.
+use Rattle.std.specs.Prelude.{ℕ, List, []}
+use Rattle.or_command.specs.declared.refusal.Refusal.{Refusal}
+use Rattle.or_command.specs.declared.refusal.Refusal.TheVariants.{Image, Source, Schedule, Script, Symbols}
+use Rattle.or_command.specs.declared.outcome.Outcome.{Outcome}
+use Rattle.or_command.specs.declared.outcome.Outcome.TheVariants.{Done, Unread, TooLong, Refused, Unwritten, NoMemory}
+use Rattle.or_command.specs.Lines.{read_line, write_line, long_line, memory_line, image_line, source_line, schedule_line, script_line, symbols_line}
+
+-- a check that failed: the status that it gives, and the line
+pub record FailedCheck : Type 0 where
+  pub status : ℕ
+  pub line : List ℕ
+
+abbrev pub failed_check : Refusal → FailedCheck
+failed_check (Image name fault place) = record { status = 3; line = image_line name.now fault place }
+failed_check (Source name fault line) = record { status = 9; line = source_line name.now fault line }
+failed_check (Schedule name detail) = record { status = 4; line = schedule_line name.now detail }
+failed_check (Script name fault line) = record { status = 10; line = script_line name.now fault line }
+failed_check (Symbols name fault place) = record { status = 12; line = symbols_line name.now fault place }
+
+-- all was done, or what stopped the command
+pub data CommandEnd : Type 0 where
+  done : CommandEnd
+  unread : List ℕ → CommandEnd
+  too_long : List ℕ → ℕ → CommandEnd
+  refused : FailedCheck → CommandEnd
+  unwritten : List ℕ → CommandEnd
+  no_memory : CommandEnd
+
+abbrev pub end_of : Outcome → CommandEnd
+end_of Done = done
+end_of (Unread name) = unread name.now
+end_of (TooLong name limit) = too_long name.now limit
+end_of (Refused refusal) = refused (failed_check refusal)
+end_of (Unwritten name) = unwritten name.now
+end_of NoMemory = no_memory
+
+abbrev pub status_of : CommandEnd → ℕ
+status_of done = 0
+status_of (unread name) = 5
+status_of (too_long name limit) = 8
+status_of (refused check) = check.status
+status_of (unwritten name) = 6
+status_of no_memory = 7
+
+abbrev pub line_of : CommandEnd → List ℕ
+line_of done = []
+line_of (unread name) = read_line name
+line_of (too_long name limit) = long_line name limit
+line_of (refused check) = check.line
+line_of (unwritten name) = write_line name
+line_of no_memory = memory_line

@@ -1,0 +1,96 @@
+-- Any command that loads files, checks them, and then writes.
+use Rattle.std.specs.Prelude.{◌≡◌, ℕ, List, [], ◌∷◌, length, nat_lt, if◌then◌else◌, Option, Some, None, ⊤}
+use Rattle.or_host.specs.HostState.{HostState}
+use Rattle.or_command.specs.Leaves.{Untouched, NoFault}
+use Rattle.or_command.specs.Writes.{File, IsOther, AllWritten, WriteStopped}
+use Rattle.or_command.specs.Loads.{Load, AreRead, StopsUnread, StopsTooLong}
+use Rattle.or_command.specs.Said.{SaidLine}
+use Rattle.or_command.specs.Ends.{FailedCheck, CommandEnd, done, unread, too_long, refused, unwritten, no_memory, line_of}
+
+-- nothing is written or created, and no fault came
+pub record LeavesAll (old new : HostState) : Type 0 where
+  pub untouched : Untouched old new
+  pub no_fault : NoFault old new
+
+-- no file that is loaded is one of those that are written
+abbrev pub AreApart : List Load → List File → Type 0
+AreApart [] files = ⊤
+AreApart (load ∷ loads) files = IsOther load.name files × AreApart loads files
+
+-- the first file that holds more than its limit
+abbrev pub first_long : List Load → List (List ℕ) → Option Load
+first_long [] files = None
+first_long (load ∷ loads) [] = None
+first_long (load ∷ loads) (file ∷ files) = if nat_lt load.limit (length file) then Some load else first_long loads files
+
+abbrev pub end_by : Option Load → Option FailedCheck → CommandEnd
+end_by (Some load) fault = too_long load.name load.limit
+end_by None (Some fault) = refused fault
+end_by None None = done
+
+-- the host tells what each of the files holds
+abbrev pub AllTold : List Load → List (List ℕ) → HostState → Type 0
+AllTold [] [] state = ⊤
+AllTold [] (file ∷ files) state = ⊥
+AllTold (load ∷ loads) [] state = ⊥
+AllTold (load ∷ loads) (file ∷ files) state = (state.holds load.name ≡ Some (Some file)) × AllTold loads files state
+
+-- A command is told by four things: the files that it loads, in order; `verdict`, the first check of their bytes that fails;
+-- `Writes`, which texts and console it writes of these bytes; and `Lacking`, what it leaves where memory ran out.
+module _ (loads : List Load) (verdict : List (List ℕ) → Option FailedCheck) (Writes : List (List ℕ) → List File → List ℕ → Type 0)
+    (Lacking : HostState → HostState → Type 0) where
+  -- all is written
+  pub record Finishes (old new : HostState) : Type 0 where
+    pub files : List (List ℕ)
+    pub read : AreRead loads files new
+    pub sound : verdict files ≡ None
+    pub outs : List File
+    pub console : List ℕ
+    pub writes : Writes files outs console
+    pub out : AllWritten outs console old new
+
+  -- a check of the files fails
+  pub record Refuses (fault : FailedCheck) (old new : HostState) : Type 0 where
+    pub files : List (List ℕ)
+    pub read : AreRead loads files new
+    pub found : verdict files ≡ Some fault
+    pub untouched : Untouched old new
+    pub no_fault : NoFault old new
+
+  -- a write fails
+  pub record Breaks (name : List ℕ) (old new : HostState) : Type 0 where
+    pub files : List (List ℕ)
+    pub read : AreRead loads files new
+    pub sound : verdict files ≡ None
+    pub outs : List File
+    pub console : List ℕ
+    pub writes : Writes files outs console
+    pub stopped : WriteStopped outs console name old new
+
+  -- a file is not read; those before it are
+  pub record Misses (name : List ℕ) (old new : HostState) : Type 0 where
+    pub before : List (List ℕ)
+    pub stopped : StopsUnread loads name before old new
+
+  -- a file is the first that holds more than its limit
+  pub record Exceeds (name : List ℕ) (limit : ℕ) (old new : HostState) : Type 0 where
+    pub before : List (List ℕ)
+    pub stopped : StopsTooLong loads name limit before old new
+
+  -- what stands after a command, by what it came to
+  abbrev pub CommandOutcome : CommandEnd → HostState → HostState → Type 0
+  CommandOutcome done old new = Finishes old new
+  CommandOutcome (unread name) old new = Misses name old new
+  CommandOutcome (too_long name limit) old new = Exceeds name limit old new
+  CommandOutcome (refused fault) old new = Refuses fault old new
+  CommandOutcome (unwritten name) old new = Breaks name old new
+  CommandOutcome no_memory old new = Lacking old new
+
+  -- the same, with the line that was said of it
+  pub record CommandRuns (end : CommandEnd) (old new : HostState) : Type 0 where
+    pub outcome : CommandOutcome end old new
+    pub said : SaidLine (line_of end) old new
+
+  -- what the files come to by themselves
+  abbrev pub end_of_files : List (List ℕ) → CommandEnd
+  end_of_files files = end_by (first_long loads files) (verdict files)

@@ -1,0 +1,140 @@
+// Says how a command ended, and gives its status.
+ghost use Rattle.std.specs.Prelude.{◌≡◌, ◌++◌, codes, decimal};
+ghost use Rattle.or_command.specs.Said.{Said, SaidLine, OnlySays};
+ghost use Rattle.or_command.specs.Lines.{usage_line, schedule_line};
+ghost use Rattle.or_command.specs.Ends.{end_of, status_of, line_of, failed_check};
+
+use crate::saying::{then_detail, then_number, then_say};
+use crate::{Outcome, Refusal, ScheduleDetail};
+use or_host::{Failed, Host};
+
+/// Says the line of a command's end, and answers its status. A fault of `say` changes no status.
+pub fn conclude<H: Host>(host: &mut H, outcome: Outcome<'_>) -> u8
+    ensures status { result ≡ status_of (end_of outcome.entry) }
+    ensures line { SaidLine (line_of (end_of outcome.entry)) (H.state host.old) (H.state host.new) }
+    ensures only { OnlySays (H.state host.old) (H.state host.new) }
+{
+    let _ = say_outcome(host, outcome);
+    outcome_status(outcome)
+}
+
+/// Says that the words are no command. A fault of `say` changes nothing.
+pub fn say_usage<H: Host>(host: &mut H)
+    ensures line { SaidLine usage_line (H.state host.old) (H.state host.new) }
+    ensures only { OnlySays (H.state host.old) (H.state host.new) }
+{
+    let _ = then_say(host, Ok(()), b"or1k: usage\n");
+}
+
+// The status of an outcome.
+fn outcome_status(outcome: Outcome<'_>) -> u8
+    ensures { result ≡ status_of (end_of outcome.entry) }
+{
+    match outcome {
+        Outcome::Done => 0,
+        Outcome::Unread(_) => 5,
+        Outcome::TooLong(_, _) => 8,
+        Outcome::Refused(refusal) => refusal_status(refusal),
+        Outcome::Unwritten(_) => 6,
+        Outcome::NoMemory => 7,
+    }
+}
+
+// The status of a refusal.
+fn refusal_status(refusal: Refusal<'_>) -> u8
+    ensures { result ≡ (failed_check refusal.entry).status }
+{
+    match refusal {
+        Refusal::Image { .. } => 3,
+        Refusal::Source { .. } => 9,
+        Refusal::Schedule { .. } => 4,
+        Refusal::Script { .. } => 10,
+        Refusal::Symbols { .. } => 12,
+    }
+}
+
+// Says the line of an outcome.
+fn say_outcome<H: Host>(host: &mut H, outcome: Outcome<'_>) -> Result<(), Failed>
+    ensures { Said result (line_of (end_of outcome.entry)) (H.state host.old) (H.state host.new) }
+{
+    match outcome {
+        Outcome::Done => Ok(()),
+        Outcome::Unread(name) => say_name(host, b"or1k: read ", name),
+        Outcome::TooLong(name, limit) => say_long(host, name, limit as u64),
+        Outcome::Refused(refusal) => say_refusal(host, refusal),
+        Outcome::Unwritten(name) => say_name(host, b"or1k: write ", name),
+        Outcome::NoMemory => then_say(host, Ok(()), b"or1k: no memory\n"),
+    }
+}
+
+// Says the line of a refusal.
+fn say_refusal<H: Host>(host: &mut H, refusal: Refusal<'_>) -> Result<(), Failed>
+    ensures { Said result ((failed_check refusal.entry).line) (H.state host.old) (H.state host.new) }
+{
+    match refusal {
+        Refusal::Image { name, fault, place } => {
+            say_fault(host, b"or1k: image ", name, fault, b" ", place)
+        }
+        Refusal::Source { name, fault, line } => {
+            say_fault(host, b"or1k: source ", name, fault, b" line ", line)
+        }
+        Refusal::Schedule { name, detail } => say_schedule(host, name, detail),
+        Refusal::Script { name, fault, line } => {
+            say_fault(host, b"or1k: script ", name, fault, b" line ", line)
+        }
+        Refusal::Symbols { name, fault, place } => {
+            say_fault(host, b"or1k: symbols ", name, fault, b" ", place)
+        }
+    }
+}
+
+// Says a line of a word and a name.
+fn say_name<H: Host>(host: &mut H, word: &[u8], name: &str) -> Result<(), Failed>
+    ensures { Said result (word.now ++ name.now ++ codes "\n") (H.state host.old) (H.state host.new) }
+{
+    let so_far = then_say(host, Ok(()), word);
+    let so_far = then_say(host, so_far, name.as_bytes());
+    then_say(host, so_far, b"\n")
+}
+
+// Says that a file is too long.
+fn say_long<H: Host>(host: &mut H, name: &str, limit: u64) -> Result<(), Failed>
+    ensures { Said result (codes "or1k: too long " ++ name.now ++ codes " " ++ decimal limit ++ codes "\n") (H.state host.old) (H.state host.new) }
+{
+    let so_far = then_say(host, Ok(()), b"or1k: too long ");
+    let so_far = then_say(host, so_far, name.as_bytes());
+    let so_far = then_say(host, so_far, b" ");
+    let so_far = then_number(host, so_far, limit);
+    then_say(host, so_far, b"\n")
+}
+
+// Says a line of a word, a name, a fault's number, and where it is.
+fn say_fault<H: Host>(
+    host: &mut H,
+    word: &[u8],
+    name: &str,
+    fault: u32,
+    before: &[u8],
+    place: u64,
+) -> Result<(), Failed>
+    ensures { Said result (word.now ++ name.now ++ codes " fault " ++ decimal fault ++ before.now ++ decimal place ++ codes "\n") (H.state host.old) (H.state host.new) }
+{
+    let so_far = then_say(host, Ok(()), word);
+    let so_far = then_say(host, so_far, name.as_bytes());
+    let so_far = then_say(host, so_far, b" fault ");
+    let so_far = then_number(host, so_far, fault as u64);
+    let so_far = then_say(host, so_far, before);
+    let so_far = then_number(host, so_far, place);
+    then_say(host, so_far, b"\n")
+}
+
+// Says why a recording is refused.
+fn say_schedule<H: Host>(host: &mut H, name: &str, detail: ScheduleDetail<'_>) -> Result<(), Failed>
+    ensures { Said result (schedule_line name.now detail.entry) (H.state host.old) (H.state host.new) }
+{
+    let so_far = then_say(host, Ok(()), b"or1k: schedule ");
+    let so_far = then_say(host, so_far, name.as_bytes());
+    let so_far = then_say(host, so_far, b" ");
+    let so_far = then_detail(host, so_far, detail);
+    then_say(host, so_far, b"\n")
+}

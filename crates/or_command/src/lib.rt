@@ -1,0 +1,18 @@
+//! What every command does in the outside: it loads files, writes files and standard output, and says how it ended.
+#![tactic(auto)]
+
+mod ending;
+mod loading;
+mod outcome;
+mod refusal;
+mod saying;
+mod writing;
+
+pub use ending::{conclude, say_usage};
+pub use loading::{Input, LoadStop, load_files};
+pub use outcome::Outcome;
+pub use refusal::{Refusal, ScheduleDetail};
+pub use writing::{Output, write_files, write_outputs};
+
+#[cfg(test)]
+mod tests;

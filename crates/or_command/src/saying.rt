@@ -1,0 +1,173 @@
+// Says a line in pieces: where a piece fails, the rest is not said. No piece takes memory.
+ghost use Rattle.std.specs.Prelude.{◌≡◌, ◌++◌, ◌<◌, List, ℕ, decimal, codes, false};
+ghost use Rattle.std.specs.Fmt.{digit_glyph};
+ghost use Rattle.or_text.specs.Hexadecimal.{digest_text};
+ghost use Rattle.or_host.specs.HostState.{HostState};
+ghost use Rattle.or_command.specs.Said.{Said};
+ghost use Rattle.or_command.specs.Lines.{detail_text};
+
+use crate::ScheduleDetail;
+use or_host::{Failed, Host};
+
+// Says a piece of a line, where what stands before it was said.
+pub(crate) fn then_say<H: Host>(
+    host: &mut H,
+    so_far: Result<(), Failed>,
+    piece: &[u8],
+) -> Result<(), Failed>
+    ensures { (start : HostState) (line : List ℕ) → Said so_far line start (H.state host.old)
+        → Said result (line ++ piece.now) start (H.state host.new) }
+{
+    match so_far {
+        Ok(()) => host.say(piece),
+        Err(failed) => Err(failed),
+    }
+}
+
+// Says a number in decimal, in the same way.
+pub(crate) fn then_number<H: Host>(
+    host: &mut H,
+    so_far: Result<(), Failed>,
+    n: u64,
+) -> Result<(), Failed>
+    ensures { (start : HostState) (line : List ℕ) → Said so_far line start (H.state host.old)
+        → Said result (line ++ decimal n) start (H.state host.new) }
+{
+    if n < 10 {
+        return then_say(host, so_far, &[b'0' + n as u8]);
+    }
+    let so_far = then_number(host, so_far, n / 10);
+    then_say(host, so_far, &[b'0' + (n % 10) as u8])
+}
+
+// The digit, as `a` for 10.
+fn small_digit(digit: u8) -> u8
+    requires { digit < 16 }
+    ensures { result ≡ digit_glyph false digit }
+{
+    if digit < 10 {
+        b'0' + digit
+    } else {
+        b'a' + (digit - 10)
+    }
+}
+
+// Says bytes as two lower-case digits each, in the same way.
+pub(crate) fn then_digest<H: Host>(
+    host: &mut H,
+    so_far: Result<(), Failed>,
+    bytes: &[u8],
+) -> Result<(), Failed>
+    ensures { (start : HostState) (line : List ℕ) → Said so_far line start (H.state host.old)
+        → Said result (line ++ digest_text bytes.now) start (H.state host.new) }
+{
+    let Some((first, others)) = bytes.split_first() else {
+        return so_far;
+    };
+    let digits = [small_digit(*first / 16), small_digit(*first % 16)];
+    let so_far = then_say(host, so_far, &digits);
+    then_digest(host, so_far, others)
+}
+
+// Says a word and two digests.
+fn then_digests<H: Host>(
+    host: &mut H,
+    so_far: Result<(), Failed>,
+    word: &[u8],
+    recorded: &[u8],
+    found: &[u8],
+) -> Result<(), Failed>
+    ensures { (start : HostState) (line : List ℕ) → Said so_far line start (H.state host.old)
+        → Said result (line ++ (word.now ++ digest_text recorded.now ++ codes " " ++ digest_text found.now)) start (H.state host.new) }
+{
+    let so_far = then_say(host, so_far, word);
+    let so_far = then_digest(host, so_far, recorded);
+    let so_far = then_say(host, so_far, b" ");
+    then_digest(host, so_far, found)
+}
+
+// Says a word and a number.
+fn then_numbered<H: Host>(
+    host: &mut H,
+    so_far: Result<(), Failed>,
+    before: &[u8],
+    n: u64,
+) -> Result<(), Failed>
+    ensures { (start : HostState) (line : List ℕ) → Said so_far line start (H.state host.old)
+        → Said result (line ++ (before.now ++ decimal n)) start (H.state host.new) }
+{
+    let so_far = then_say(host, so_far, before);
+    then_number(host, so_far, n)
+}
+
+// Says a number between two words.
+fn then_between<H: Host>(
+    host: &mut H,
+    so_far: Result<(), Failed>,
+    before: &[u8],
+    n: u64,
+    behind: &[u8],
+) -> Result<(), Failed>
+    ensures { (start : HostState) (line : List ℕ) → Said so_far line start (H.state host.old)
+        → Said result (line ++ (before.now ++ decimal n ++ behind.now)) start (H.state host.new) }
+{
+    let so_far = then_say(host, so_far, before);
+    let so_far = then_number(host, so_far, n);
+    then_say(host, so_far, behind)
+}
+
+// Says a turn, a word and two counts.
+fn then_counts<H: Host>(
+    host: &mut H,
+    so_far: Result<(), Failed>,
+    turn: u64,
+    word: &[u8],
+    recorded: u64,
+    found: u64,
+) -> Result<(), Failed>
+    ensures { (start : HostState) (line : List ℕ) → Said so_far line start (H.state host.old)
+        → Said result (line ++ (codes "turn " ++ decimal turn ++ word.now ++ decimal recorded ++ codes " " ++ decimal found)) start (H.state host.new) }
+{
+    let so_far = then_between(host, so_far, b"turn ", turn, word);
+    let so_far = then_number(host, so_far, recorded);
+    let so_far = then_say(host, so_far, b" ");
+    then_number(host, so_far, found)
+}
+
+// Says why a recording is refused.
+pub(crate) fn then_detail<H: Host>(
+    host: &mut H,
+    so_far: Result<(), Failed>,
+    detail: ScheduleDetail<'_>,
+) -> Result<(), Failed>
+    ensures { (start : HostState) (line : List ℕ) → Said so_far line start (H.state host.old)
+        → Said result (line ++ detail_text detail.entry) start (H.state host.new) }
+{
+    match detail {
+        ScheduleDetail::Head { line } => { then_numbered(host, so_far, b"head ", u64::from(line)) }
+        ScheduleDetail::At { place } => then_numbered(host, so_far, b"at ", place),
+        ScheduleDetail::Short => then_say(host, so_far, b"short"),
+        ScheduleDetail::Image { recorded, found } => {
+            then_digests(host, so_far, b"image ", recorded, found)
+        }
+        ScheduleDetail::Input { recorded, found } => {
+            then_digests(host, so_far, b"input ", recorded, found)
+        }
+        ScheduleDetail::TurnStopped { turn } => {
+            then_between(host, so_far, b"turn ", turn, b" stopped")
+        }
+        ScheduleDetail::CoreRunning { core } => {
+            then_between(host, so_far, b"core ", u64::from(core), b" running")
+        }
+        ScheduleDetail::TurnWrites {
+            turn,
+            recorded,
+            found,
+        } => then_counts(host, so_far, turn, b" writes ", recorded, found),
+        ScheduleDetail::TurnConsole {
+            turn,
+            recorded,
+            found,
+        } => then_counts(host, so_far, turn, b" console ", recorded, found),
+    }
+}

@@ -1,0 +1,75 @@
+// Writes files in order, and standard output behind them.
+ghost use Rattle.std.specs.Prelude.{MatchResult};
+ghost use Rattle.or_host.specs.Calls.{IsName};
+ghost use Rattle.or_command.specs.Leaves.{Silent};
+ghost use Rattle.or_command.specs.Writes.{files_of, AreFiles, FileWritten, FileStopped, FilesWritten, FilesStopped, AllWritten, WriteStopped};
+
+use or_host::{Failed, Host};
+
+/// A file that a command writes: its name, and the text that it is to hold.
+#[derive(Clone, Copy)]
+pub struct Output<'a> {
+    pub name: &'a str,
+    pub text: &'a [u8],
+}
+
+/// Writes files in order, and then the console to standard output where it is not empty.
+///
+/// Errors: the name whose write failed, `-` for standard output. The files before it are whole.
+pub fn write_outputs<'a, H: Host>(
+    host: &mut H,
+    files: &[Output<'a>],
+    console: &[u8],
+) -> Result<(), &'a str>
+    requires { AreFiles (files_of files.now) }
+    ensures outputs { MatchResult result
+        (λ _. AllWritten (files_of files.now) console.now (H.state host.old) (H.state host.new))
+        (λ name. WriteStopped (files_of files.now) console.now name.now (H.state host.old) (H.state host.new)) }
+    ensures silent { Silent (H.state host.old) (H.state host.new) }
+{
+    match write_files(host, files) {
+        Ok(()) => {}
+        Err(name) => return Err(name),
+    }
+    if console.is_empty() {
+        return Ok(());
+    }
+    match host.out(console) {
+        Ok(()) => Ok(()),
+        Err(_) => Err("-"),
+    }
+}
+
+/// Writes files in order, each by a create and an append.
+///
+/// Errors: the name at which a write failed. The files before it are whole.
+pub fn write_files<'a, H: Host>(host: &mut H, files: &[Output<'a>]) -> Result<(), &'a str>
+    requires { AreFiles (files_of files.now) }
+    ensures files { MatchResult result
+        (λ _. FilesWritten (files_of files.now) (H.state host.old) (H.state host.new))
+        (λ name. FilesStopped (files_of files.now) name.now (H.state host.old) (H.state host.new)) }
+    ensures silent { Silent (H.state host.old) (H.state host.new) }
+{
+    let Some((file, others)) = files.split_first() else {
+        return Ok(());
+    };
+    if write_file(host, file.name, file.text).is_err() {
+        return Err(file.name);
+    }
+    match write_files(host, others) {
+        Ok(()) => Ok(()),
+        Err(name) => Err(name),
+    }
+}
+
+// Makes a name hold this text.
+fn write_file<H: Host>(host: &mut H, name: &str, text: &[u8]) -> Result<(), Failed>
+    requires { IsName name.now }
+    ensures file { MatchResult result
+        (λ _. FileWritten name.now text.now (H.state host.old) (H.state host.new))
+        (λ _. FileStopped name.now text.now (H.state host.old) (H.state host.new)) }
+    ensures silent { Silent (H.state host.old) (H.state host.new) }
+{
+    host.create(name)?;
+    host.append(name, text)
+}

@@ -1,0 +1,57 @@
+-- The options of a run: `[--cores N] [--budget N] [--ram N] [--pic latched]`, in this order.
+use Rattle.std.specs.Prelude.{ℕ, List, [], ◌∷◌, Bool, true, false, ◌&&◌, nat_le, if◌then◌else◌, Option, Some, None, codes}
+use Rattle.std.specs.Str.{bytes_eq}
+use Rattle.or_words.specs.declared.Config.{Config}
+use Rattle.or_text.specs.Numerals.{decimal_of}
+
+abbrev pub with_rest : {A : Type 0} → List (List ℕ) → Option A → Option (A × List (List ℕ))
+with_rest rest None = None
+with_rest rest (Some value) = Some (value, rest)
+
+abbrev pub option_value : List (List ℕ) → Option (ℕ × List (List ℕ))
+option_value [] = None
+option_value (value ∷ rest) = with_rest rest (decimal_of value)
+
+-- an option with a number, or its default where another word stands here; and the words behind it
+abbrev pub option_of : List ℕ → ℕ → List (List ℕ) → Option (ℕ × List (List ℕ))
+option_of name default [] = Some (default, [])
+option_of name default (word ∷ rest) = if bytes_eq word name then option_value rest else Some (default, word ∷ rest)
+
+abbrev pub latch_value : List (List ℕ) → Option (Bool × List (List ℕ))
+latch_value [] = None
+latch_value (value ∷ rest) = if bytes_eq value (codes "latched") then Some (true, rest) else None
+
+-- whether the PIC latches; and the words behind
+abbrev pub latch_of : List (List ℕ) → Option (Bool × List (List ℕ))
+latch_of [] = Some (false, [])
+latch_of (word ∷ rest) = if bytes_eq word (codes "--pic") then latch_value rest else Some (false, word ∷ rest)
+
+-- the settings are in their ranges
+abbrev pub config_fits : Config → Bool
+config_fits config =
+    (nat_le 1 config.cores && nat_le config.cores 8)
+    && ((nat_le 1 config.budget && nat_le config.budget 67108864) && (nat_le 1 config.ram && nat_le config.ram 256))
+
+abbrev pub config_where : Config → Option Config
+config_where config = if config_fits config then Some config else None
+
+abbrev pub config_with_latch : ℕ → ℕ → ℕ → Option (Bool × List (List ℕ)) → Option Config
+config_with_latch cores budget ram None = None
+config_with_latch cores budget ram (Some (latched, [])) = config_where (record { cores = cores; budget = budget; ram = ram; latched = latched })
+config_with_latch cores budget ram (Some (latched, word ∷ rest)) = None
+
+abbrev pub config_with_ram : ℕ → ℕ → Option (ℕ × List (List ℕ)) → Option Config
+config_with_ram cores budget None = None
+config_with_ram cores budget (Some (ram, rest)) = config_with_latch cores budget ram (latch_of rest)
+
+abbrev pub config_with_budget : ℕ → Option (ℕ × List (List ℕ)) → Option Config
+config_with_budget cores None = None
+config_with_budget cores (Some (budget, rest)) = config_with_ram cores budget (option_of (codes "--ram") 32 rest)
+
+abbrev pub config_with_cores : Option (ℕ × List (List ℕ)) → Option Config
+config_with_cores None = None
+config_with_cores (Some (cores, rest)) = config_with_budget cores (option_of (codes "--budget") 1000000 rest)
+
+-- the settings that the options give; none where a word is no option here, or a setting is out of its range
+unfoldable pub config_of : List (List ℕ) → Option Config
+config_of words = config_with_cores (option_of (codes "--cores") 1 words)

@@ -1,0 +1,16 @@
+//! A core: its steps and its turns.
+//! No call here takes memory, and none refuses.
+#![tactic(auto)]
+
+mod data_access;
+mod execute;
+mod private;
+mod results;
+mod special;
+mod state;
+mod step;
+mod turn;
+
+pub use or_model::Stop;
+pub use private::Private;
+pub use state::Core;

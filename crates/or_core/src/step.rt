@@ -1,0 +1,321 @@
+//! One step of a core.
+
+ghost use Rattle.std.specs.Prelude.{◌≡◌, ◌<◌, ◌%◌, MatchResult, OnErr, Ok, Err, None};
+ghost use Rattle.std.specs.Option.{ForSome};
+ghost use Rattle.or_isa.specs.Fits.{Fits};
+ghost use Rattle.or_parts.specs.Bits.{plus, immediate};
+ghost use Rattle.or_model.specs.Core.{exception_entry, register};
+ghost use Rattle.or_model.specs.World.{World};
+ghost use Rattle.or_model.specs.Routes.{fetch_route, cached_instruction};
+ghost use Rattle.or_model.specs.Step.{with_step_counted, is_misplaced, spr_number, outcome, outcome_on_bus, step_off_bus, step_on_bus, step_by_word, step_unheld, step};
+ghost use Rattle.or_bus.specs.Represents.{Represents};
+ghost use Rattle.or_model.specs.Counts.{SameCounts, SameSettings};
+ghost use Rattle.or_core.specs.Follows.{IsState, IsOutcome, IsAlignedBy, KeepsBus};
+
+use crate::data_access::UNCACHED;
+use crate::state::{Core, has};
+use or_bus::Bus;
+use or_isa::{Insn, decode, needs_bus};
+use or_model::Route;
+use or_parts::{Cause, Right, TlbFault};
+use or_words::{ExtendKind, Width};
+
+/// SR's supervisor mode, instruction cache enable and instruction MMU enable.
+const SM: u32 = 0x1;
+
+const ICE: u32 = 0x10;
+
+const IME: u32 = 0x40;
+
+impl Core {
+    // Where the next instruction lies.
+    #[inline]
+    #[tactic(auto, unfolding(or_model::specs::Routes::fetch_route))]
+    pub(crate) fn fetch_route(&self) -> Route
+        ensures value { result ≡ fetch_route self.now }
+        ensures aligned { IsAlignedBy 4 result }
+    {
+        let sr = self.sprs.sr();
+        let pc = self.pc;
+        if pc % 4 != 0 {
+            return Route::Refused(Cause::Alignment(pc));
+        }
+        if !has(sr, IME) {
+            return Route::At(pc, has(sr, ICE) && pc < UNCACHED);
+        }
+        match self.insn_tlb.translate(pc, Right::Fetch, has(sr, SM)) {
+            Ok(phys) => Route::At(
+                phys.pa,
+                has(sr, ICE) && phys.pa < UNCACHED && !phys.inhibited,
+            ),
+            Err(TlbFault::Miss) => Route::Refused(Cause::InsnMiss(pc)),
+            Err(TlbFault::PageFault) => Route::Refused(Cause::InsnPageFault(pc)),
+        }
+    }
+
+    // The word of a held instruction line, where the fetch is cached.
+    #[inline]
+    pub(crate) fn cached_instruction(&self, pa: u32, cached: bool) -> Option<u32>
+        requires { pa % 4 ≡ 0 }
+        ensures { result ≡ cached_instruction self.now pa cached }
+    {
+        if cached { self.icache.look(pa) } else { None }
+    }
+
+    // Whether an instruction may not stand where it does, or not in this mode.
+    #[inline]
+    #[tactic(auto, unfolding(or_model::specs::Step::is_misplaced))]
+    fn is_misplaced(&self, insn: &Insn) -> bool
+        ensures { result ≡ is_misplaced self.now insn.now }
+    {
+        match insn {
+            Insn::J { .. }
+            | Insn::Jal { .. }
+            | Insn::Bnf { .. }
+            | Insn::Bf { .. }
+            | Insn::Jr { .. }
+            | Insn::Jalr { .. } => self.branch.is_some(),
+            Insn::Rfe => self.branch.is_some() || !has(self.sprs.sr(), SM),
+            Insn::Mfspr { .. } | Insn::Mtspr { .. } => !has(self.sprs.sr(), SM),
+            _ => false,
+        }
+    }
+
+    // The register that an l.mtspr writes.
+    #[inline]
+    pub(crate) fn spr_number(&self, insn: &Insn) -> u32
+        requires { Fits insn.now }
+        ensures { result ≡ spr_number self.now insn.now }
+    {
+        match insn {
+            Insn::Mtspr { a, k, .. } => self.register(*a) | *k,
+            _ => 0,
+        }
+    }
+
+    // An exception is entered, which is a step.
+    pub(crate) fn enter_step(&mut self, cause: Cause)
+        requires { self.old.steps < self.old.budget }
+        ensures state { self.new ≡ with_step_counted (exception_entry self.old cause) }
+        ensures settings { SameSettings self.old self.new }
+    {
+        self.enter(cause);
+        self.count_step();
+    }
+
+    // What an instruction comes to that asks nothing of the bus, or a word that is no instruction.
+    #[inline]
+    fn attempt(&mut self, insn: Option<Insn>) -> Result<(), Cause>
+        requires { ForSome insn Fits }
+        ensures outcome { MatchResult result (λ _. outcome self.old insn ≡ Ok self.new) (λ e. outcome self.old insn ≡ Err e) }
+        ensures err { OnErr result (self.new ≡ self.old) }
+        ensures counts { SameCounts self.old self.new }
+    {
+        match insn {
+            Some(insn) => {
+                if self.is_misplaced(&insn) {
+                    Err(Cause::Illegal)
+                } else {
+                    self.execute(insn)
+                }
+            }
+            None => Err(Cause::Illegal),
+        }
+    }
+
+    // One step by an instruction that asks nothing of the bus, or by a word that is no instruction.
+    #[inline]
+    #[tactic(auto, unfolding(or_model::specs::Step::step_off_bus))]
+    pub(crate) fn step_off_bus(&mut self, insn: Option<Insn>)
+        requires fits { ForSome insn Fits }
+        requires room { self.old.steps < self.old.budget }
+        ensures state { self.new ≡ step_off_bus self.old insn }
+        ensures settings { SameSettings self.old self.new }
+    {
+        match self.attempt(insn) {
+            Ok(()) => self.retire(),
+            Err(cause) => self.enter_step(cause),
+        }
+    }
+
+    // What an instruction that asks the bus comes to.
+    #[tactic(auto, unfolding(or_model::specs::Step::executed_on_bus))]
+    fn attempt_on_bus(&mut self, bus: &mut Bus, insn: Insn) -> Result<(), Cause>
+        requires fits { Fits insn }
+        requires known { self.old.number < bus.old.cores }
+        requires spare { 0 < bus.old.spare }
+        ensures outcome { (world : World) → Represents bus.old world → IsOutcome (outcome_on_bus self.old world insn) result self.new bus.new }
+        ensures err { OnErr result ((self.new ≡ self.old) × (bus.new ≡ bus.old)) }
+        ensures counts { SameCounts self.old self.new }
+        ensures bus { KeepsBus bus.old bus.new }
+    {
+        if self.is_misplaced(&insn) {
+            return Err(Cause::Illegal);
+        }
+        match insn {
+            Insn::Lwa { d, a, i } => self.load_linked(bus, d, self.address(a, i)),
+            Insn::Lwz { d, a, i } => {
+                self.load(bus, d, Width::Word, ExtendKind::Whole, self.address(a, i))
+            }
+            Insn::Lws { d, a, i } => {
+                self.load(bus, d, Width::Word, ExtendKind::Whole, self.address(a, i))
+            }
+            Insn::Lbz { d, a, i } => {
+                self.load(
+                    bus,
+                    d,
+                    Width::Byte,
+                    ExtendKind::ByteZero,
+                    self.address(a, i),
+                )
+            }
+            Insn::Lbs { d, a, i } => {
+                self.load(
+                    bus,
+                    d,
+                    Width::Byte,
+                    ExtendKind::ByteSigned,
+                    self.address(a, i),
+                )
+            }
+            Insn::Lhz { d, a, i } => {
+                self.load(
+                    bus,
+                    d,
+                    Width::Half,
+                    ExtendKind::HalfZero,
+                    self.address(a, i),
+                )
+            }
+            Insn::Lhs { d, a, i } => {
+                self.load(
+                    bus,
+                    d,
+                    Width::Half,
+                    ExtendKind::HalfSigned,
+                    self.address(a, i),
+                )
+            }
+            Insn::Swa { a, b, i } => self.store_conditional(
+                bus,
+                self.register(b),
+                self.address(a, i),
+            ),
+            Insn::Sw { a, b, i } => self.store(
+                bus,
+                self.register(b),
+                Width::Word,
+                self.address(a, i),
+            ),
+            Insn::Sb { a, b, i } => self.store(
+                bus,
+                self.register(b),
+                Width::Byte,
+                self.address(a, i),
+            ),
+            Insn::Sh { a, b, i } => self.store(
+                bus,
+                self.register(b),
+                Width::Half,
+                self.address(a, i),
+            ),
+            Insn::Mtspr { b, .. } => {
+                bus.drop_line(self.number(), self.register(b));
+                self.go_on();
+                Ok(())
+            }
+            _ => Err(Cause::Illegal),
+        }
+    }
+
+    // The address of a load or a store.
+    #[inline]
+    fn address(&self, a: u32, i: i32) -> u32
+        requires { a < 32 }
+        ensures { result ≡ plus (register self.now a) (immediate i) }
+    {
+        self.register(a).wrapping_add(i.cast_unsigned())
+    }
+
+    // One step by an instruction that asks the bus.
+    #[tactic(auto, unfolding(or_model::specs::Step::step_on_bus))]
+    fn step_on_bus(&mut self, bus: &mut Bus, insn: Insn)
+        requires fits { Fits insn }
+        requires room { self.old.steps < self.old.budget }
+        requires known { self.old.number < bus.old.cores }
+        requires spare { 0 < bus.old.spare }
+        ensures state { (world : World) → Represents bus.old world → IsState (step_on_bus self.old world insn) self.new bus.new }
+        ensures settings { SameSettings self.old self.new }
+        ensures bus { KeepsBus bus.old bus.new }
+    {
+        match self.attempt_on_bus(bus, insn) {
+            Ok(()) => self.retire(),
+            Err(cause) => self.enter_step(cause),
+        }
+    }
+
+    // One step by a word that was fetched.
+    #[tactic(auto, unfolding(or_model::specs::Step::step_by_word))]
+    fn step_by_word(&mut self, bus: &mut Bus, word: u32)
+        requires room { self.old.steps < self.old.budget }
+        requires known { self.old.number < bus.old.cores }
+        requires spare { 0 < bus.old.spare }
+        ensures state { (world : World) → Represents bus.old world → IsState (step_by_word self.old world word) self.new bus.new }
+        ensures settings { SameSettings self.old self.new }
+        ensures bus { KeepsBus bus.old bus.new }
+    {
+        match decode(word) {
+            Some(insn) => {
+                if needs_bus(&insn, self.spr_number(&insn)) {
+                    self.step_on_bus(bus, insn)
+                } else {
+                    self.step_off_bus(Some(insn))
+                }
+            }
+            None => self.step_off_bus(None),
+        }
+    }
+
+    // One step by a word that no held line has.
+    #[tactic(auto, unfolding(or_model::specs::Step::step_unheld))]
+    fn step_unheld(&mut self, bus: &mut Bus, pa: u32, cached: bool)
+        requires aligned { pa % 4 ≡ 0 }
+        requires room { self.old.steps < self.old.budget }
+        requires known { self.old.number < bus.old.cores }
+        requires spare { 0 < bus.old.spare }
+        ensures state { (world : World) → Represents bus.old world → IsState (step_unheld self.old world pa cached) self.new bus.new }
+        ensures settings { SameSettings self.old self.new }
+        ensures bus { KeepsBus bus.old bus.new }
+    {
+        match bus.fetch(pa, cached) {
+            Ok(fetched) => {
+                self.hold_line(pa, &fetched.line);
+                self.step_by_word(bus, fetched.word)
+            }
+            Err(_) => self.enter_step(Cause::BusError(self.place().pc)),
+        }
+    }
+
+    /// Makes one step: a retired instruction, or an exception entry. The steps rise by one.
+    #[tactic(auto, unfolding(or_model::specs::Step::step))]
+    pub fn step(&mut self, bus: &mut Bus)
+        requires running { self.old.stop ≡ None }
+        requires known { self.old.number < bus.old.cores }
+        requires spare { 0 < bus.old.spare }
+        ensures state { (world : World) → Represents bus.old world → IsState (step self.old world) self.new bus.new }
+        ensures settings { SameSettings self.old self.new }
+        ensures bus { KeepsBus bus.old bus.new }
+    {
+        let _ = &self.steps;
+        match self.due_interrupt() {
+            Some(cause) => self.enter_step(cause),
+            None => match self.fetch_route() {
+                Route::Refused(cause) => self.enter_step(cause),
+                Route::At(pa, cached) => match self.cached_instruction(pa, cached) {
+                    Some(word) => self.step_by_word(bus, word),
+                    None => self.step_unheld(bus, pa, cached),
+                },
+            },
+        }
+    }
+}

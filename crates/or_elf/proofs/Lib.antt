@@ -1,0 +1,11 @@
+pub mod Ranges
+pub mod Headers
+pub mod Tables
+pub mod Starts
+pub mod Faults
+pub mod Parts
+pub mod LoadsAlike
+pub mod WrittenWords
+pub mod WrittenHeaders
+pub mod WrittenFault
+pub mod WrittenPlaces

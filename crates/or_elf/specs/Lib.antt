@@ -1,0 +1,7 @@
+pub mod Header
+pub mod Image
+pub mod Fault
+pub mod Placed
+pub mod Text
+pub mod Loading
+pub mod Symbols

@@ -1,0 +1,26 @@
+//! Reads and writes ELF32 files for a board of big-endian cores with 32 bits.
+#![tactic(auto)]
+
+mod fault;
+mod fields;
+mod image;
+pub mod laws;
+mod reader;
+mod sections;
+mod segment;
+mod symbol_fault;
+mod symbols;
+mod writer;
+
+pub use fault::ElfFault;
+pub use image::Image;
+pub use reader::read;
+pub use segment::Segment;
+pub use symbol_fault::SymFault;
+pub use symbols::{Function, Symbols};
+pub use writer::write;
+
+#[cfg(test)]
+mod symbol_tests;
+#[cfg(test)]
+mod tests;

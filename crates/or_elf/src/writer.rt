@@ -1,0 +1,151 @@
+// Writes the file of a program.
+ghost use Rattle.std.specs.Prelude.{◌≡◌, ◌≤◌, ◌<◌, ◌+◌, ◌*◌, ◌^◌, [], ◌++◌, length, OnOk, OnErr};
+ghost use Rattle.byteorder.specs.Endian.{big_bytes};
+ghost use Rattle.or_elf.specs.Text.{word_count, words_text, halves_text, ident, elf_header, headers_start, program_header, program_headers, pieces_text, elf_text};
+
+use byteorder::{BigEndian, ByteOrder};
+use or_isa::{Piece, Program};
+use or_words::NoMemory;
+use std::alloc::AllocError;
+
+/// Writes the ELF file of a program (ELF gABI, "ELF Header" and "Program Header"): an executable for OpenRISC that is
+/// entered at 00000100, with a segment for each piece, at the piece's place. `out` is empty before, and again after
+/// `NoMemory`.
+pub fn write(program: &Program, out: &mut Vec<u8>) -> Result<(), NoMemory>
+    requires empty { out.old.items ≡ [] }
+    requires pieces { length program.now ≤ 64 }
+    requires words { word_count program.now ≤ 16000000 }
+    ensures text { OnOk result (out.new.items ≡ elf_text program.now) }
+    ensures no_memory { OnErr result (out.new.items ≡ []) }
+{
+    match append_file(&program.pieces, out) {
+        Ok(()) => Ok(()),
+        Err(_) => {
+            out.clear();
+            Err(NoMemory)
+        }
+    }
+}
+
+#[tactic(auto, unfolding(crate::specs::Text::elf_text))]
+fn append_file(pieces: &[Piece], out: &mut Vec<u8>) -> Result<(), AllocError>
+    requires empty { out.old.items ≡ [] }
+    requires pieces { length pieces.now ≤ 64 }
+    requires words { word_count pieces.now ≤ 16000000 }
+    ensures { OnOk result (out.new.items ≡ elf_text pieces.now) }
+{
+    append_elf_header(pieces.len() as u16, out)?;
+    append_program_headers(pieces, 52 + 32 * pieces.len() as u32, out)?;
+    append_pieces(pieces, out)
+}
+
+#[tactic(auto, unfolding(crate::specs::Text::elf_header))]
+fn append_elf_header(count: u16, out: &mut Vec<u8>) -> Result<(), AllocError>
+    ensures { OnOk result (out.new.items ≡ out.old.items ++ elf_header count) }
+{
+    append_ident(out)?;
+    append_halves(&[2, 92], out)?;
+    append_words(&[1, 0x100, headers_start(count), 0, 0], out)?;
+    append_halves(&[52, 32, count, 0, 0, 0], out)
+}
+
+#[tactic(auto, unfolding(crate::specs::Text::ident))]
+fn append_ident(out: &mut Vec<u8>) -> Result<(), AllocError>
+    ensures { OnOk result (out.new.items ≡ out.old.items ++ ident) }
+{
+    out.extend_from_slice(&[0x7f, 0x45, 0x4c, 0x46, 1, 2, 1, 0, 0, 0, 0, 0, 0, 0, 0, 0])
+}
+
+fn headers_start(count: u16) -> u32
+    ensures { result ≡ headers_start count }
+{
+    if count == 0 { 0 } else { 52 }
+}
+
+// A header for each piece; the words of the first stand at the offset.
+#[tactic(auto, unfolding(crate::specs::Text::program_headers))]
+fn append_program_headers(pieces: &[Piece], start: u32, out: &mut Vec<u8>) -> Result<(), AllocError>
+    requires { start + 4 * word_count pieces.now < 2 ^ 32 }
+    ensures { OnOk result (out.new.items ≡ out.old.items ++ program_headers start pieces.now) }
+{
+    let mut rest = pieces;
+    let mut offset = start;
+    while let Some((piece, others)) = rest.split_first() {
+        let size = size_of_piece(piece);
+        append_program_header(offset, piece.place, size, out)?;
+        offset += size;
+        rest = others;
+    }
+    Ok(())
+}
+
+fn size_of_piece(piece: &Piece) -> u32
+    requires { 4 * length piece.now.1 < 2 ^ 32 }
+    ensures { result ≡ 4 * length piece.now.1 }
+{
+    4 * piece.words.len() as u32
+}
+
+#[tactic(auto, unfolding(crate::specs::Text::program_header))]
+fn append_program_header(
+    offset: u32,
+    place: u32,
+    size: u32,
+    out: &mut Vec<u8>,
+) -> Result<(), AllocError>
+    ensures { OnOk result (out.new.items ≡ out.old.items ++ program_header offset place size) }
+{
+    append_words(&[1, offset, place, place, size, size, 7, 4], out)
+}
+
+#[tactic(auto, unfolding(crate::specs::Text::pieces_text))]
+fn append_pieces(pieces: &[Piece], out: &mut Vec<u8>) -> Result<(), AllocError>
+    ensures { OnOk result (out.new.items ≡ out.old.items ++ pieces_text pieces.now) }
+{
+    let mut rest = pieces;
+    while let Some((piece, others)) = rest.split_first() {
+        append_words(&piece.words, out)?;
+        rest = others;
+    }
+    Ok(())
+}
+
+#[tactic(auto, unfolding(crate::specs::Text::words_text))]
+fn append_words(words: &[u32], out: &mut Vec<u8>) -> Result<(), AllocError>
+    ensures { OnOk result (out.new.items ≡ out.old.items ++ words_text words.now) }
+{
+    let mut rest = words;
+    while let Some((word, others)) = rest.split_first() {
+        append_word(*word, out)?;
+        rest = others;
+    }
+    Ok(())
+}
+
+#[tactic(auto, unfolding(crate::specs::Text::halves_text))]
+fn append_halves(halves: &[u16], out: &mut Vec<u8>) -> Result<(), AllocError>
+    ensures { OnOk result (out.new.items ≡ out.old.items ++ halves_text halves.now) }
+{
+    let mut rest = halves;
+    while let Some((half, others)) = rest.split_first() {
+        append_half(*half, out)?;
+        rest = others;
+    }
+    Ok(())
+}
+
+fn append_half(half: u16, out: &mut Vec<u8>) -> Result<(), AllocError>
+    ensures { OnOk result (out.new.items ≡ out.old.items ++ big_bytes 2 half) }
+{
+    let mut bytes = [0; 2];
+    BigEndian::write_u16(&mut bytes, half);
+    out.extend_from_slice(&bytes)
+}
+
+fn append_word(word: u32, out: &mut Vec<u8>) -> Result<(), AllocError>
+    ensures { OnOk result (out.new.items ≡ out.old.items ++ big_bytes 4 word) }
+{
+    let mut bytes = [0; 4];
+    BigEndian::write_u32(&mut bytes, word);
+    out.extend_from_slice(&bytes)
+}

@@ -1,0 +1,16 @@
+-- What contracts see of a host at a moment.
+use Rattle.std.specs.Prelude.{ℕ, List, Option}
+use Rattle.or_host.specs.Told.{Content}
+use Rattle.or_host.specs.Blamed.{Blamed}
+
+pub record HostState : Type 0 where
+  -- what each name holds, where the host tells it
+  pub holds : List ℕ → Option Content
+  -- what was written to standard output, and what was said, where the host tells it
+  pub written : Option (List ℕ)
+  pub said : Option (List ℕ)
+  -- the count of faults of all calls but `say`, and that of `say`
+  pub faults : ℕ
+  pub say_faults : ℕ
+  -- what was being done at the last fault of a call but `say`
+  pub blame : Option Blamed

@@ -1,0 +1,11 @@
+pub mod Bytes
+pub mod Told
+pub mod Blamed
+pub mod HostState
+pub mod Counts
+pub mod Calls
+pub mod Store
+pub mod Failing
+pub mod Given
+pub mod Memory
+pub mod Sure

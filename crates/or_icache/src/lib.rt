@@ -1,0 +1,125 @@
+//! The instruction cache: a finite map from index to line, of 128 lines of 32 bytes.
+//! Nothing here takes memory, and nothing refuses.
+#![tactic(auto)]
+
+ghost use Rattle.std.specs.Prelude.{◌≡◌, ◌+◌, ◌≤◌, ◌%◌, length};
+ghost use Rattle.or_words.specs.declared.Width.TheVariants.{Word};
+ghost use Rattle.or_parts.specs.Memory.{value_at};
+ghost use Rattle.or_parts.specs.Lines.{index_of, line_of, no_lines, is_line_at, held_word, line_filled, line_dropped};
+
+pub use or_parts::Line;
+use std::marker::Model;
+
+/// The bytes of a line.
+const LINE: u32 = 32;
+/// How many lines there are.
+const LINES: u32 = 128;
+
+/// The lines that are held, each with the physical address at which it begins. No store reaches
+/// them (OpenRISC 1000 Architecture Manual, chapter 9).
+#[derive(Clone, Copy)]
+pub struct ICache {
+    lines: [Option<Line>; 128],
+}
+
+impl Model for ICache {
+    ghost use Rattle.std.specs.Prelude.{List, Option};
+    ghost use Rattle.or_parts.specs.declared.Line.{Line};
+
+    ghost Value = { List (Option Line) };
+
+    ghost view = { λ a. a.lines };
+
+    ghost inverse = { λ lines. record { lines = lines } };
+}
+
+// The index of an address.
+#[inline]
+fn index_of(pa: u32) -> usize
+    ensures { result ≡ index_of pa }
+{
+    (pa / LINE % LINES) as usize
+}
+
+// Where the line of an address begins.
+#[inline]
+fn line_of(pa: u32) -> u32
+    ensures { result ≡ line_of pa }
+{
+    pa - pa % LINE
+}
+
+// Whether it is the line of an address.
+#[inline]
+fn is_line_at(held: &Option<Line>, pa: u32) -> bool
+    ensures { result ≡ is_line_at held.now pa }
+{
+    match held {
+        Some(line) => line.address == line_of(pa),
+        None => false,
+    }
+}
+
+// The big-endian word at a place.
+#[inline]
+fn word_at(bytes: &[u8], at: usize) -> u32
+    requires { at + 4 ≤ length bytes.now }
+    ensures { result ≡ value_at bytes.now at Word }
+{
+    let first = u32::from(bytes[at]);
+    let second = u32::from(bytes[at + 1]);
+    let third = u32::from(bytes[at + 2]);
+    let fourth = u32::from(bytes[at + 3]);
+    ((first * 256 + second) * 256 + third) * 256 + fourth
+}
+
+impl ICache {
+    /// A cache that holds no line.
+    pub fn empty() -> ICache
+        ensures { result ≡ no_lines }
+    {
+        ICache { lines: [None; 128] }
+    }
+
+    /// The big-endian word at a physical address, None exactly where its line is not held.
+    #[inline]
+    #[tactic(auto, unfolding(or_parts::specs::Lines::held_word))]
+    pub fn look(&self, pa: u32) -> Option<u32>
+        requires { pa % 4 ≡ 0 }
+        ensures { result ≡ held_word self.now pa }
+    {
+        match &self.lines[index_of(pa)] {
+            Some(line) => if line.address == line_of(pa) {
+                Some(word_at(&line.bytes, (pa % LINE) as usize))
+            } else {
+                None
+            },
+            None => None,
+        }
+    }
+
+    /// Holds these bytes as the line of a physical address, over whatever its index held.
+    #[tactic(auto, unfolding(or_parts::specs::Lines::line_filled))]
+    pub fn fill(&mut self, pa: u32, line: &[u8; 32])
+        ensures { self.new ≡ line_filled self.old pa line.now }
+    {
+        self.lines[index_of(pa)] = Some(Line {
+            address: line_of(pa),
+            bytes: *line,
+        });
+    }
+
+    /// Drops the line of a physical address where it is held.
+    #[tactic(auto, unfolding(or_parts::specs::Lines::line_dropped))]
+    pub fn drop_line(&mut self, pa: u32)
+        ensures { self.new ≡ line_dropped self.old pa }
+    {
+        let index = index_of(pa);
+        if is_line_at(&self.lines[index], pa) {
+            self.lines[index] = None;
+        }
+    }
+}
+
+#[cfg(test)]
+mod tests;

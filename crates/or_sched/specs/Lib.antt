@@ -1,0 +1,14 @@
+pub mod Runs
+pub mod Blocks
+pub mod HeadText
+pub mod RecText
+pub mod Schedule
+pub mod RunRests
+pub mod BlockRests
+pub mod Places
+pub mod Ended
+pub mod Body
+pub mod HeadPlaces
+pub mod HeadLines
+pub mod Recording
+pub mod Reading
