@@ -29,7 +29,7 @@ OnlyPlaces (Ok (Word word)) = ⊥
 OnlyPlaces (Err fault) = Unit {0}
 
 -- a word, where one is put, or a fault
-abbrev OnlyWords : Bool → Result Statement Fault → Type 0
+abbrev pub OnlyWords : Bool → Result Statement Fault → Type 0
 OnlyWords puts (Ok Nothing) = ⊥
 OnlyWords puts (Ok (Place place)) = ⊥
 OnlyWords puts (Ok (Word word)) = puts ≡ true
@@ -48,7 +48,7 @@ word_or : (b : Bool) (n : ℕ) → OnlyWords true (cond b (Ok (Word n)) (Err Out
 word_or true n = refl
 word_or false n = tt
 
-word_words : (r : Result ℤ Fault) → OnlyWords true (word_at r)
+pub word_words : (r : Result ℤ Fault) → OnlyWords true (word_at r)
 word_words (Err e) = tt
 word_words (Ok z) = word_or (int_le (negsuc 2147483647) z && int_le z (pos 4294967295)) _
 
@@ -56,7 +56,7 @@ made_words : (m : Mnemonic) (r : Result Operands Fault) → OnlyWords true (made
 made_words m (Ok o) = refl
 made_words m (Err e) = tt
 
-insn_words : (labels : Labels) (pc : ℕ) (m : Option Mnemonic) (text : List ℕ) → OnlyWords (is_some m) (insn_at labels pc m text)
+pub insn_words : (labels : Labels) (pc : ℕ) (m : Option Mnemonic) (text : List ℕ) → OnlyWords (is_some m) (insn_at labels pc m text)
 insn_words labels pc None text = tt
 insn_words labels pc (Some m) text = made_words m _
 
@@ -107,17 +107,18 @@ no_fault_in : (r : Result Statement Fault) → fault_in r ≡ None → (s : Stat
 no_fault_in (Ok s) e = (s, refl)
 no_fault_in (Err f) e = absurd cc
 
-record Faultless (labels : Labels) (state : State) (line : List ℕ) : Type 0 where
-  clean : is_clean line ≡ true
-  statement : Statement
-  reads : statement_at labels state.place (statement_of line) ≡ Ok statement
-  room : lacks_room state (statement_of line) ≡ false
+pub record Faultless (labels : Labels) (state : State) (line : List ℕ) : Type 0 where
+  pub clean : is_clean line ≡ true
+  pub statement : Statement
+  pub reads : statement_at labels state.place (statement_of line) ≡ Ok statement
+  pub room : lacks_room state (statement_of line) ≡ false
+  pub free : overlaps state (statement_of line) ≡ false
 
 not_flagged : (b : Bool) (f : Fault) → fault_where b f ≡ None → b ≡ false
 not_flagged true f e = absurd cc
 not_flagged false f e = refl
 
-faultless : (labels : Labels) (state : State) (line : List ℕ) → line_fault labels state line ≡ None → Faultless labels state line
+pub faultless : (labels : Labels) (state : State) (line : List ℕ) → line_fault labels state line ≡ None → Faultless labels state line
 unfolding line_fault
 faultless labels state line e =
     let bad = fault_where (not (is_clean line)) BadLine in
@@ -126,13 +127,23 @@ faultless labels state line e =
     let first = lesser_none bad (lesser_of read rest) e in
     let second = lesser_none read rest first.1 in
     let outcome = no_fault_in (statement_at labels state.place (statement_of line)) second.0 in
-    let third = lesser_none (fault_where (lacks_room state (statement_of line)) OutOfRange) (lesser_of (fault_where (repeats (take state.labels_before labels) (label_of line)) RepeatedLabel) (fault_where (overlaps state (statement_of line)) Overlap)) second.1 in
-    record { clean = clean_none (is_clean line) first.0; statement = outcome.0; reads = outcome.1; room = not_flagged (lacks_room state (statement_of line)) OutOfRange third.0 }
+    let room = fault_where (lacks_room state (statement_of line)) OutOfRange in
+    let repeated = fault_where (repeats (take state.labels_before labels) (label_of line)) RepeatedLabel in
+    let overlap = fault_where (overlaps state (statement_of line)) Overlap in
+    let third = lesser_none room (lesser_of repeated overlap) second.1 in
+    let fourth = lesser_none repeated overlap third.1 in
+    record {
+      clean = clean_none (is_clean line) first.0;
+      statement = outcome.0;
+      reads = outcome.1;
+      room = not_flagged (lacks_room state (statement_of line)) OutOfRange third.0;
+      free = not_flagged (overlaps state (statement_of line)) Overlap fourth.1;
+    }
 
-done_place : (state : State) (labels_before : ℕ) (s : Statement) → (carried_out state labels_before (Ok s)).place ≡ moved state.place s
-done_place state labels_before Nothing = refl
-done_place state labels_before (Place next) = refl
-done_place state labels_before (Word word) = refl
+carried_place : (state : State) (labels_before : ℕ) (s : Statement) → (carried_out state labels_before (Ok s)).place ≡ moved state.place s
+carried_place state labels_before Nothing = refl
+carried_place state labels_before (Place next) = refl
+carried_place state labels_before (Word word) = refl
 
 pub passes_agree : (labels : Labels) (state : State) (line : List ℕ) → line_fault labels state line ≡ None → (state_after labels state line).place ≡ place_after state.place line
 unfolding state_after place_after puts_word statement_at named_at
@@ -145,7 +156,7 @@ passes_agree labels state line e =
     org (word_at (value_at labels (trimmed text))) (insn_at labels state.place (mnemonic_named (name_part statement)) text) f.statement
     (empty_apart statement) (org_places (number_of (trimmed text))) (word_words (value_at labels (trimmed text))) (insn_words labels state.place (mnemonic_named (name_part statement)) text) f.reads in
     ap (λ r. (carried_out state (state.labels_before + label_count (label_of line)) r).place) f.reads
-    ∙ done_place state (state.labels_before + label_count (label_of line)) f.statement
+    ∙ carried_place state (state.labels_before + label_count (label_of line)) f.statement
     ∙ lead
     ∙ ap (λ t. cond (puts_word statement) (state.place + 4) (cond (is_org statement && t) (set_place state.place org) state.place)) (sym f.clean)
 
@@ -169,7 +180,7 @@ puts_by_tests false true w k org word insn n f g h e = absurd (no_word org n f e
 puts_by_tests false false true k org word insn n f g h e = refl
 puts_by_tests false false false k org word insn n f g h e = word_puts k insn n h e
 
-gives_word : (labels : Labels) (pc : ℕ) (statement : List ℕ) (n : ℕ) → statement_at labels pc statement ≡ Ok (Word n) → puts_word statement ≡ true
+pub gives_word : (labels : Labels) (pc : ℕ) (statement : List ℕ) (n : ℕ) → statement_at labels pc statement ≡ Ok (Word n) → puts_word statement ≡ true
 unfolding puts_word statement_at named_at
 gives_word labels pc statement n e =
     let text = operands_part statement in
@@ -190,16 +201,16 @@ room_for false true true e f = absurd cc
 room_for false true false e f = absurd cc
 room_for false false begins_piece e f = refl
 
-put_few : (begins_piece : Bool) (place w : ℕ) (pieces : List (ℕ × List ℕ)) → (begins_piece ≡ true → nat_le 64 (length pieces) ≡ false) → length pieces ≤ 64 → length (with_word begins_piece place w pieces) ≤ 64
-put_few true place w pieces h few =
+with_word_few : (begins_piece : Bool) (place w : ℕ) (pieces : List (ℕ × List ℕ)) → (begins_piece ≡ true → nat_le 64 (length pieces) ≡ false) → length pieces ≤ 64 → length (with_word begins_piece place w pieces) ≤ 64
+with_word_few true place w pieces h few =
     let less : length pieces < 64 = grind (arith, nat_tests, h refl) in
     simp length-append (omega arith)
-put_few false place w pieces h few = omega (arith, length_extended w pieces)
+with_word_few false place w pieces h few = omega (arith, length_extended w pieces)
 
-done_few : (state : State) (labels_before : ℕ) (s : Statement) → ((n : ℕ) → s ≡ Word n → state.begins_piece ≡ true → nat_le 64 (length state.pieces) ≡ false) → length state.pieces ≤ 64 → length (carried_out state labels_before (Ok s)).pieces ≤ 64
-done_few state labels_before Nothing h few = few
-done_few state labels_before (Place next) h few = few
-done_few state labels_before (Word w) h few = put_few state.begins_piece state.place w state.pieces (h w refl) few
+carried_few : (state : State) (labels_before : ℕ) (s : Statement) → ((n : ℕ) → s ≡ Word n → state.begins_piece ≡ true → nat_le 64 (length state.pieces) ≡ false) → length state.pieces ≤ 64 → length (carried_out state labels_before (Ok s)).pieces ≤ 64
+carried_few state labels_before Nothing h few = few
+carried_few state labels_before (Place next) h few = few
+carried_few state labels_before (Word w) h few = with_word_few state.begins_piece state.place w state.pieces (h w refl) few
 
 step_few : (labels : Labels) (state : State) (line : List ℕ) → line_fault labels state line ≡ None → length state.pieces ≤ 64 → length (state_after labels state line).pieces ≤ 64
 unfolding state_after
@@ -208,7 +219,7 @@ step_few labels state line e few =
     let statement = statement_of line in
     let labels_before = state.labels_before + label_count (label_of line) in
     let P : Result Statement Fault → Type 0 = λ r. length (carried_out state labels_before r).pieces ≤ 64 in
-    subst P (sym f.reads) (done_few state labels_before f.statement (λ n is begins_piece.
+    subst P (sym f.reads) (carried_few state labels_before f.statement (λ n is begins_piece.
     let puts = gives_word labels state.place statement n (f.reads ∙ ap (λ s. Ok s) is) in
     let room = sym (ap (λ t. t && (nat_le 0x10000000 state.place || (state.begins_piece && nat_le 64 (length state.pieces)))) puts) ∙ f.room in
     room_for (nat_le 0x10000000 state.place) (nat_le 64 (length state.pieces)) state.begins_piece room begins_piece) few)

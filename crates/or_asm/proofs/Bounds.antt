@@ -1,5 +1,5 @@
 -- How large a program can be.
-use Rattle.std.proofs.Common.{◌≡◌, ◌∙◌, refl, sym, ap, subst, ℕ, ◌+◌, ◌*◌, ◌≤◌, Bool, true, false, cond, eqb, List, [], ◌∷◌, ◌++◌, length, sum_by, Result, Ok, Err, arith}
+use Rattle.std.proofs.Common.{◌≡◌, ap, ℕ, ◌+◌, ◌≤◌, Bool, true, false, cond, eqb, List, [], ◌∷◌, ◌++◌, length, Result, Ok, Err, arith}
 use Rattle.std.specs.List.{onto_first}
 use Rattle.or_asm_read.specs.declared.fault.Fault.{Fault}
 use Rattle.or_asm_read.specs.declared.statements.Statement.{Statement}
@@ -10,7 +10,7 @@ use Rattle.or_asm_read.specs.Statements.{statement_at}
 use Rattle.std.proofs.lemmas.List.{length-append}
 use Rattle.std.proofs.lemmas.List.Sums.{sum_by-cons, sum_by_push}
 use Rattle.or_asm.specs.Lines.{lines_of}
-use Rattle.or_asm.specs.Program.{appended, extended, word_count}
+use Rattle.or_asm.specs.Program.{extended, word_count}
 use Rattle.or_asm.specs.Source.{State, initial_state, label_count, with_word, carried_out, state_after, source_of}
 use Rattle.or_asm.specs.First.{RunsWithoutFault, all_labels}
 use Rattle.or_asm.proofs.Firsts.{program_is}

@@ -24,7 +24,7 @@ words_append p [] w q e = let same : p ≡ q = omega arith in ap (λ (n : ℕ). 
 words_append p (x ∷ xs) w q e = let later : p + 4 + 4 * length xs ≡ q = omega arith in ap (λ l. (p, x) ∷ l) (words_append (p + 4) xs w q later)
 
 -- the last piece ends at a place
-abbrev EndsAt : List (ℕ × List ℕ) → ℕ → Type 0
+abbrev pub EndsAt : List (ℕ × List ℕ) → ℕ → Type 0
 EndsAt [] place = ⊥
 EndsAt (p ∷ []) place = p.0 + 4 * length p.1 ≡ place
 EndsAt (p ∷ q ∷ ps) place = EndsAt (q ∷ ps) place
@@ -48,34 +48,34 @@ begun_ends w place (p ∷ []) = omega arith
 begun_ends w place (p ∷ q ∷ ps) = begun_ends w place (q ∷ ps)
 
 -- a state whose next word stands behind the last piece, or begins one
-abbrev FollowsAt : Bool → List (ℕ × List ℕ) → ℕ → Type 0
+abbrev pub FollowsAt : Bool → List (ℕ × List ℕ) → ℕ → Type 0
 FollowsAt true pieces place = Unit {0}
 FollowsAt false pieces place = EndsAt pieces place
 
 abbrev Follows : State → Type 0
 Follows state = FollowsAt state.begins_piece state.pieces state.place
 
-put_pairs : (begins_piece : Bool) (place w : ℕ) (pieces : List (ℕ × List ℕ)) → FollowsAt begins_piece pieces place → placed_words (with_word begins_piece place w pieces) ≡ placed_words pieces ++ (place, w) ∷ []
-put_pairs true place w pieces h = flat_map-append (λ piece. words_at piece.0 piece.1) pieces ((place, w ∷ []) ∷ [])
-put_pairs false place w pieces h = pairs_extended w place pieces h
+with_word_pairs : (begins_piece : Bool) (place w : ℕ) (pieces : List (ℕ × List ℕ)) → FollowsAt begins_piece pieces place → placed_words (with_word begins_piece place w pieces) ≡ placed_words pieces ++ (place, w) ∷ []
+with_word_pairs true place w pieces h = flat_map-append (λ piece. words_at piece.0 piece.1) pieces ((place, w ∷ []) ∷ [])
+with_word_pairs false place w pieces h = pairs_extended w place pieces h
 
-put_ends : (begins_piece : Bool) (place w : ℕ) (pieces : List (ℕ × List ℕ)) → FollowsAt begins_piece pieces place → EndsAt (with_word begins_piece place w pieces) (place + 4)
-put_ends true place w pieces h = begun_ends w place pieces
-put_ends false place w pieces h = extended_ends w place pieces h
+pub with_word_ends : (begins_piece : Bool) (place w : ℕ) (pieces : List (ℕ × List ℕ)) → FollowsAt begins_piece pieces place → EndsAt (with_word begins_piece place w pieces) (place + 4)
+with_word_ends true place w pieces h = begun_ends w place pieces
+with_word_ends false place w pieces h = extended_ends w place pieces h
 
 record Puts (state next : State) (pairs : List (ℕ × ℕ)) : Type 0 where
   follows : Follows next
   holds : placed_words next.pieces ≡ placed_words state.pieces ++ pairs
 
-done_puts : (state : State) (labels_before : ℕ) (r : Result Statement Fault) → Follows state → Puts state (carried_out state labels_before r) (word_put state.place r)
-done_puts state labels_before (Ok Nothing) h = record { follows = h; holds = sym (append_nothing (placed_words state.pieces)) }
-done_puts state labels_before (Ok (Place next)) h = record { follows = tt; holds = sym (append_nothing (placed_words state.pieces)) }
-done_puts state labels_before (Ok (Word w)) h = record { follows = put_ends state.begins_piece state.place w state.pieces h; holds = put_pairs state.begins_piece state.place w state.pieces h }
-done_puts state labels_before (Err fault) h = record { follows = h; holds = sym (append_nothing (placed_words state.pieces)) }
+carried_puts : (state : State) (labels_before : ℕ) (r : Result Statement Fault) → Follows state → Puts state (carried_out state labels_before r) (word_put state.place r)
+carried_puts state labels_before (Ok Nothing) h = record { follows = h; holds = sym (append_nothing (placed_words state.pieces)) }
+carried_puts state labels_before (Ok (Place next)) h = record { follows = tt; holds = sym (append_nothing (placed_words state.pieces)) }
+carried_puts state labels_before (Ok (Word w)) h = record { follows = with_word_ends state.begins_piece state.place w state.pieces h; holds = with_word_pairs state.begins_piece state.place w state.pieces h }
+carried_puts state labels_before (Err fault) h = record { follows = h; holds = sym (append_nothing (placed_words state.pieces)) }
 
 step_puts : (labels : Labels) (state : State) (line : List ℕ) → Follows state → Puts state (state_after labels state line) (word_put state.place (statement_at labels state.place (statement_of line)))
 unfolding state_after
-step_puts labels state line h = done_puts state (state.labels_before + label_count (label_of line)) (statement_at labels state.place (statement_of line)) h
+step_puts labels state line h = carried_puts state (state.labels_before + label_count (label_of line)) (statement_at labels state.place (statement_of line)) h
 
 lead_puts : (labels : Labels) (from to : State) (lines : List (List ℕ)) → Follows from → RunsWithoutFault labels from lines to → placed_words to.pieces ≡ placed_words from.pieces ++ words_put labels from lines
 lead_puts labels from to [] h e = ap (λ s. placed_words s.pieces) (sym e) ∙ sym (append_nothing (placed_words from.pieces))

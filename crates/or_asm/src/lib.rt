@@ -13,7 +13,6 @@ mod pieces;
 
 pub use fault::AsmFault;
 pub use or_asm_text::printing::print;
-
 use or_isa::Program;
 use std::alloc::Global;
 

@@ -9,9 +9,9 @@ ghost use Rattle.or_asm_read.specs.Statements.{statement_at, HasLowPlace};
 ghost use Rattle.or_asm.specs.Lines.{lines_of, labels_from, with_label, puts_word, place_after};
 ghost use Rattle.or_asm.specs.Source.{fault_where, lesser_of, fault_in, repeats, lacks_room, overlaps, line_fault, label_count, with_word, carried_out, state_after, source_from, source_of, initial_state, Refuses, state_of};
 
+use crate::fault::{AsmFault, at_line};
 use crate::lines::{cut_line, place_after, puts_word};
 use crate::pieces::{begin_piece, extend_last, is_covered};
-use crate::fault::{AsmFault, at_line};
 use or_asm_read::cuts::{is_clean, label, statement};
 use or_asm_read::fault::{Fault, lesser};
 use or_asm_read::labels::LabelTable;

@@ -1,3 +1,4 @@
+pub mod ApartPieces
 pub mod Lines
 pub mod Numbers
 pub mod Numerals

@@ -1,3 +1,4 @@
+pub mod Apart
 pub mod Grammar
 pub mod Numerals
 pub mod SlotFits

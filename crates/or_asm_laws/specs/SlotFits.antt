@@ -1,7 +1,6 @@
 -- The operands that their places can show.
 use Rattle.std.specs.Prelude.{ℕ, ◌^◌, ◌<◌, ℤ, pos, negsuc, List, [], ◌∷◌, ◌++◌, codes}
 use Rattle.or_isa.specs.Fits.{IsSigned}
-use Rattle.or_text.specs.Hexadecimal.{hexadecimal}
 use Rattle.or_asm_text.specs.declared.operands.Operands.{Operands}
 use Rattle.or_asm_text.specs.declared.operands.Slot.{Slot}
 use Rattle.or_asm_text.specs.declared.operands.Slot.TheVariants.{D, A, B, Signed, Half, HighHalf, LowHalf, Shift, Page, Target, Memory}
@@ -27,6 +26,6 @@ abbrev pub SlotsFit : List Slot → Operands → Type 0
 SlotsFit [] o = Unit {0}
 SlotsFit (slot ∷ slots) o = SlotFits slot o × SlotsFit slots o
 
--- a line that sets the place
-abbrev pub org_line : ℕ → List ℕ
-org_line place = codes ".org " ++ hexadecimal place
+-- a line that sets the place to a number in some spelling
+abbrev pub org_line : List ℕ → List ℕ
+org_line number = codes ".org " ++ number

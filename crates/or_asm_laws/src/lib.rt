@@ -5,6 +5,7 @@
 ghost use Rattle.std.specs.Prelude.{◌≡◌, ℕ, ℤ, pos, ◌%◌, ◌^◌, ◌<◌, [], ◌∷◌, ◌++◌, List, Option, Some, None, Ok, Err};
 ghost use Rattle.or_asm_read.specs.declared.fault.Fault.{Fault};
 ghost use Rattle.or_asm_read.specs.Cuts.{label_of, statement_of};
+ghost use Rattle.or_asm_laws.specs.Apart.{AllApart, AllInMemory};
 ghost use Rattle.or_asm_laws.specs.Grammar.{IsLine};
 ghost use Rattle.or_asm_laws.specs.Numerals.{SpellsNumber};
 ghost use Rattle.or_asm.specs.First.{all_labels, IsFirstFault, IsProgram};
@@ -25,13 +26,15 @@ pub fn numbers_read_back()
     ensures registers { (r : ℕ) → r < 2 ^ 5 → register_of (register_text r) ≡ Some r }
 {}
 
-/// A source of two lines, a place below 10000000 (hexadecimal) and the text that is printed there, has the one word
-/// of the instruction at that place, whether or not the last line is ended.
+/// A source of two lines, an `.org` with a place below 10000000 (hexadecimal) in any spelling and the text that is
+/// printed there, has the one word of the instruction at that place, whether or not the last line is ended.
 pub fn prints_read_back()
-    ensures bare { (i : Insn) (p : ℕ) → Fits i → p < 2 ^ 28 → p % 4 ≡ 0
-        → source_of (org_line p ++ 10 ∷ text_of p i) ≡ Ok ((p, word_of i ∷ []) ∷ []) }
-    ensures ended { (i : Insn) (p : ℕ) → Fits i → p < 2 ^ 28 → p % 4 ≡ 0
-        → source_of (org_line p ++ 10 ∷ (text_of p i ++ 10 ∷ [])) ≡ Ok ((p, word_of i ∷ []) ∷ []) }
+    ensures bare { (i : Insn) (number : List ℕ) (p : ℕ) → Fits i → number_of number ≡ Some (pos p) → p < 2 ^ 28 → p % 4 ≡ 0
+        → source_of (org_line number ++ 10 ∷ text_of p i) ≡ Ok ((p, word_of i ∷ []) ∷ []) }
+    ensures ended { (i : Insn) (number : List ℕ) (p : ℕ) → Fits i → number_of number ≡ Some (pos p) → p < 2 ^ 28 → p % 4 ≡ 0
+        → source_of (org_line number ++ 10 ∷ (text_of p i ++ 10 ∷ [])) ≡ Ok ((p, word_of i ∷ []) ∷ []) }
+    ensures printed { (i : Insn) (p : ℕ) → Fits i → p < 2 ^ 28 → p % 4 ≡ 0
+        → source_of (org_line (hexadecimal p) ++ 10 ∷ text_of p i) ≡ Ok ((p, word_of i ∷ []) ∷ []) }
 {}
 
 /// The answer for a source is the least fault of the first line that has one, or what all its lines put.
@@ -65,4 +68,10 @@ pub fn pieces_hold_the_words()
 pub fn passes_agree()
     ensures { (labels : List (List ℕ × ℕ)) (state : State) (line : List ℕ) → line_fault labels state line ≡ None
         → (state_after labels state line).place ≡ place_after state.place line }
+{}
+
+/// No two pieces of a program share an address, and each has words, at multiples of four below 10000000 (hexadecimal).
+pub fn words_stand_apart()
+    ensures apart { (text : List ℕ) (pieces : List (ℕ × List ℕ)) → source_of text ≡ Ok pieces → AllApart pieces }
+    ensures within { (text : List ℕ) (pieces : List (ℕ × List ℕ)) → source_of text ≡ Ok pieces → AllInMemory pieces }
 {}

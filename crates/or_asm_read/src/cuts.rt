@@ -40,7 +40,9 @@ pub fn is_label(text: &[u8]) -> bool
 {
     match text.split_first() {
         None => false,
-        Some((first, rest)) => { is_label_start(*first) && are_label_bytes(rest) && rest.len() < 64 }
+        Some((first, rest)) => {
+            is_label_start(*first) && are_label_bytes(rest) && rest.len() < 64
+        }
     }
 }
 

@@ -164,7 +164,10 @@ fn jump_at(labels: &LabelTable, pc: u32, text: &[u8]) -> Result<Operand, Fault>
 }
 
 // What both give, or the lesser fault.
-fn address_operand(value: Result<Operand, Fault>, register: Result<Operand, Fault>) -> Result<Operand, Fault>
+fn address_operand(
+    value: Result<Operand, Fault>,
+    register: Result<Operand, Fault>,
+) -> Result<Operand, Fault>
     ensures { result ≡ lesser_fault address_operand value register }
 {
     match (value, register) {

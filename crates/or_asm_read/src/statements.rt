@@ -70,7 +70,12 @@ fn word_at(labels: &LabelTable, text: &[u8]) -> Result<Statement, Fault>
 }
 
 #[tactic(auto, using(crate::proofs::Found::made_fits))]
-fn insn_at(labels: &LabelTable, pc: u32, mnemonic: Mnemonic, text: &[u8]) -> Result<Statement, Fault>
+fn insn_at(
+    labels: &LabelTable,
+    pc: u32,
+    mnemonic: Mnemonic,
+    text: &[u8],
+) -> Result<Statement, Fault>
     ensures is { result ≡ made_of mnemonic (operands_at labels.now pc (slots_of mnemonic) text.now) }
     ensures low { HasLowPlace result }
 {
@@ -80,7 +85,12 @@ fn insn_at(labels: &LabelTable, pc: u32, mnemonic: Mnemonic, text: &[u8]) -> Res
     }
 }
 
-fn instruction_at(labels: &LabelTable, pc: u32, name: &[u8], text: &[u8]) -> Result<Statement, Fault>
+fn instruction_at(
+    labels: &LabelTable,
+    pc: u32,
+    name: &[u8],
+    text: &[u8],
+) -> Result<Statement, Fault>
     ensures is { result ≡ insn_at labels.now pc (mnemonic_named name.now) text.now }
     ensures low { HasLowPlace result }
 {

@@ -1,29 +1,28 @@
 -- Version 2 by turns.
-use Rattle.std.proofs.Common.{◌≡◌, ◌≢◌, ◌∙◌, sym, ap, subst, ℕ, zero, suc, List, ◌++◌, ◌∷◌, [], ◌+◌, ◌-◌, ◌*◌, ◌^◌, ◌≤◌, ◌<◌, min, append_assoc, append-nil, arith, refl, length, length-append, length-drop, take, drop, inl, inr, ◌⊎◌, Option, Some, None}
-use Rattle.std.specs.Prelude.{replicate, All, map}
+use Rattle.std.proofs.Common.{◌≡◌, ◌∙◌, sym, ap, subst, ℕ, zero, suc, List, ◌++◌, ◌∷◌, [], ◌+◌, ◌-◌, ◌*◌, ◌≤◌, ◌<◌, min, append-nil, arith, refl, length, length-drop, take, drop, inl, inr, ◌⊎◌, Some}
+use Rattle.std.specs.Prelude.{map}
 use Rattle.std.proofs.lemmas.Bool.{cases_lt}
-use Rattle.std.proofs.lemmas.List.{length-replicate, length-take-le, take-append-drop, take_at, drop_at, take_all}
-use Rattle.std.proofs.lemmas.List.Elements.{recursion_from_All, All-from_recursion}
+use Rattle.std.proofs.lemmas.List.{length-take-le, take-append-drop}
+use Rattle.std.proofs.lemmas.List.Elements.{recursion_from_All}
 use Rattle.or_sched.specs.declared.places.Limits.{Limits}
-use Rattle.or_sched.specs.declared.places.Block.{Block}
 use Rattle.or_sched.specs.declared.recording.Mark.{Mark}
 use Rattle.or_sched.specs.declared.places.Place.TheVariants.{First}
 use Rattle.or_sched.specs.Runs.{expand, runs, runs_after, block_text, lines_text}
-use Rattle.or_sched.specs.RunRests.{Follow, left_after, AtRun, Opens}
+use Rattle.or_sched.specs.RunRests.{Follow, left_after}
 use Rattle.or_sched.specs.Blocks.{Item, run_item, mark_line}
 use Rattle.or_sched.specs.BlockRests.{Later, items, later_items, Behind, behind_of}
-use Rattle.or_sched.specs.Places.{Completes, Decoded, AreLimits}
+use Rattle.or_sched.specs.Places.{Completes, AreLimits}
 use Rattle.or_sched.specs.Body.{IsBody2}
 use Rattle.or_sched.specs.Blocks.{blocks_text, blocks_items}
 use Rattle.or_sched.specs.Schedule.{AreMarksAfter}
 use Rattle.or_sched.specs.Blocks.{turns_of, marks_of}
-use Rattle.or_sched.proofs.Steps.{opened, letter_back}
-use Rattle.or_sched.proofs.PlaceLemmas.{is_nothing_behind, nothing_behind, behind_whole, behind_part}
-use Rattle.or_sched.proofs.Bridge.{AreTurns, AreRuns, runs_are, runs_of_expand, block_of_runs, expand_turns, expand_length}
-use Rattle.or_sched.proofs.BodyLemmas.{turns_of_runs, are_turns, by_recursion}
+use Rattle.or_sched.proofs.Steps.{opened}
+use Rattle.or_sched.proofs.PlaceLemmas.{is_nothing_behind, behind_whole, behind_part}
+use Rattle.or_sched.proofs.Bridge.{AreTurns, AreRuns, runs_are}
+use Rattle.or_sched.proofs.BodyLemmas.{turns_of_runs, are_turns}
 
 -- the runs of a block's turns
-record BlockRuns (cores left : ℕ) (turns : List ℕ) : Type 0 where
+pub record BlockRuns (cores left : ℕ) (turns : List ℕ) : Type 0 where
   pub run : ℕ × ℕ
   pub others : List (ℕ × ℕ)
   pub text : block_text turns ≡ lines_text 16 (run ∷ others)
@@ -37,7 +36,7 @@ block_runs_by cores left turn turns [] e r = absurd (omega (arith, r.some))
 block_runs_by cores left turn turns (run ∷ others) e r =
     record { run = run; others = others; text = ap (lines_text 16) e; follow = r.follow; after = omega (arith, r.after); whole = r.whole; is = e }
 
-block_runs : (cores left : ℕ) (turns : List ℕ) → 0 < length turns → length turns ≤ left → AreTurns cores turns → BlockRuns cores left turns
+pub block_runs : (cores left : ℕ) (turns : List ℕ) → 0 < length turns → length turns ≤ left → AreTurns cores turns → BlockRuns cores left turns
 block_runs cores left [] some fits are = absurd (omega arith)
 block_runs cores left (turn ∷ turns) some fits are =
     block_runs_by cores left turn turns (runs_after turn 1 turns) refl
@@ -68,12 +67,12 @@ pub marks_of_runs : (all : List (ℕ × ℕ)) (decoded : List Item) → marks_of
 marks_of_runs [] decoded = refl
 marks_of_runs (run ∷ others) decoded = marks_of_runs others decoded
 
-are_take : (cores n : ℕ) (turns : List ℕ) → AreTurns cores turns → AreTurns cores (take n turns)
+pub are_take : (cores n : ℕ) (turns : List ℕ) → AreTurns cores turns → AreTurns cores (take n turns)
 are_take cores zero turns are = tt
 are_take cores (suc n) [] are = tt
 are_take cores (suc n) (turn ∷ turns) are = (are.0, are_take cores n turns are.1)
 
-are_drop : (cores n : ℕ) (turns : List ℕ) → AreTurns cores turns → AreTurns cores (drop n turns)
+pub are_drop : (cores n : ℕ) (turns : List ℕ) → AreTurns cores turns → AreTurns cores (drop n turns)
 are_drop cores zero turns are = are
 are_drop cores (suc n) [] are = tt
 are_drop cores (suc n) (turn ∷ turns) are = are_drop cores n turns are.1

@@ -1,6 +1,6 @@
 -- Version 2: the turns and marks of what is read.
-use Rattle.std.proofs.Common.{◌≡◌, ◌≢◌, ◌∙◌, sym, ap, subst, ℕ, zero, suc, List, ◌++◌, ◌∷◌, [], ◌+◌, ◌-◌, ◌*◌, ◌^◌, ◌≤◌, ◌<◌, min, append_assoc, append-nil, arith, refl, length, length-append, take, drop, inl, inr, ◌⊎◌, Option, Some, None}
-use Rattle.std.specs.Prelude.{replicate, All, map}
+use Rattle.std.proofs.Common.{◌≡◌, ◌∙◌, sym, ap, subst, ℕ, zero, suc, List, ◌++◌, ◌∷◌, [], ◌+◌, ◌-◌, ◌*◌, ◌≤◌, ◌<◌, min, append-nil, arith, refl, length, length-append, take, inl, inr, ◌⊎◌, Option, Some, None}
+use Rattle.std.specs.Prelude.{replicate}
 use Rattle.std.proofs.lemmas.Bool.{cases_lt}
 use Rattle.std.proofs.lemmas.List.{length-replicate, take_at, drop_at}
 use Rattle.std.proofs.lemmas.List.Elements.{All-from_recursion}
@@ -9,7 +9,7 @@ use Rattle.or_sched.specs.declared.recording.Mark.{Mark}
 use Rattle.or_sched.specs.declared.places.Place.TheVariants.{First}
 use Rattle.or_sched.specs.Runs.{expand, block_text, lines_text}
 use Rattle.or_sched.specs.RunRests.{Follow, left_after, AtRun}
-use Rattle.or_sched.specs.Blocks.{Item, run_item, mark_line}
+use Rattle.or_sched.specs.Blocks.{Item, mark_line}
 use Rattle.or_sched.specs.BlockRests.{Later, items, later_items, Behind, behind_of}
 use Rattle.or_sched.specs.Places.{Completes, AreLimits}
 use Rattle.or_sched.specs.Body.{IsBody2}

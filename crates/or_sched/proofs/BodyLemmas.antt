@@ -1,21 +1,20 @@
 -- The texts by turns are those by runs.
-use Rattle.std.proofs.Common.{◌≡◌, ◌≢◌, ◌∙◌, sym, ap, subst, ℕ, zero, suc, List, ◌++◌, ◌∷◌, [], ◌+◌, ◌-◌, ◌*◌, ◌^◌, ◌≤◌, ◌<◌, append_assoc, append-nil, arith, refl, length, length-append, inl, inr, ◌⊎◌, Option, Some, None}
-use Rattle.std.specs.Prelude.{replicate, All, map}
+use Rattle.std.proofs.Common.{◌≡◌, ◌∙◌, sym, ap, subst, ℕ, List, ◌++◌, ◌∷◌, [], ◌<◌, append_assoc, append-nil, arith, refl, length, length-append, None}
+use Rattle.std.specs.Prelude.{replicate, map}
 use Rattle.std.specs.List.{AllByRecursion}
 use Rattle.std.proofs.lemmas.List.{length-replicate}
 use Rattle.std.proofs.lemmas.List.Elements.{recursion_from_All, All-from_recursion}
 use Rattle.or_sched.specs.declared.places.Limits.{Limits}
-use Rattle.or_sched.specs.declared.places.Block.{Block}
 use Rattle.or_sched.specs.declared.places.Place.TheVariants.{First}
-use Rattle.or_sched.specs.Runs.{expand, runs, runs_after, block_text, lines_text}
-use Rattle.or_sched.specs.RunRests.{Follow, left_after, AtRun, Opens}
+use Rattle.or_sched.specs.Runs.{expand, runs, runs_after, lines_text}
+use Rattle.or_sched.specs.RunRests.{Follow, AtRun, Opens}
 use Rattle.or_sched.specs.Blocks.{Item, run_item}
 use Rattle.or_sched.specs.BlockRests.{Later, items, later_items, Behind}
-use Rattle.or_sched.specs.Places.{Completes, Decoded}
+use Rattle.or_sched.specs.Places.{Completes}
 use Rattle.or_sched.specs.Body.{IsBody1}
 use Rattle.or_sched.specs.Blocks.{turns_of}
 use Rattle.or_sched.proofs.Steps.{opened, letter_back}
-use Rattle.or_sched.proofs.Bridge.{AreTurns, AreRuns, runs_are, runs_of_expand, block_of_runs, expand_turns, expand_length}
+use Rattle.or_sched.proofs.Bridge.{AreTurns, AreRuns, runs_are, block_of_runs, expand_turns, expand_length}
 
 pub turns_of_runs : (all : List (ℕ × ℕ)) (decoded : List Item) → turns_of (map run_item all ++ decoded) ≡ expand all ++ turns_of decoded
 turns_of_runs [] decoded = refl

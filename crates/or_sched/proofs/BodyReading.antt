@@ -1,5 +1,5 @@
 -- What the bytes behind a head tell.
-use Rattle.std.proofs.Common.{◌≡◌, ◌≢◌, ◌∙◌, sym, ap, subst, ℕ, zero, suc, List, ◌++◌, ◌∷◌, [], ◌+◌, ◌-◌, ◌*◌, ◌%◌, ◌^◌, ◌≤◌, ◌<◌, append_assoc, append-nil, arith, refl, length, length-append, inl, inr, ◌⊎◌, Bool, true, false, Option, Some, None, take, min}
+use Rattle.std.proofs.Common.{◌≡◌, ◌∙◌, sym, ap, subst, ℕ, List, ◌++◌, ◌∷◌, [], ◌+◌, ◌-◌, ◌*◌, ◌%◌, ◌^◌, ◌≤◌, ◌<◌, append_assoc, append-nil, arith, refl, length, length-append, inl, inr, ◌⊎◌, Option, Some}
 use Rattle.std.proofs.Math.Nat.{mul-le-mul}
 use Rattle.std.specs.Prelude.{map, replicate}
 use Rattle.std.proofs.lemmas.List.{take_at, take_all}
@@ -9,15 +9,13 @@ use Rattle.or_sched.specs.declared.recording.Mark.{Mark}
 use Rattle.or_sched.specs.declared.head.Known.{Known}
 use Rattle.or_sched.specs.declared.head.HeadPlace.TheVariants.{Behind}
 use Rattle.or_sched.specs.declared.places.Limits.{Limits}
-use Rattle.or_sched.specs.declared.places.Block.{Block}
 use Rattle.or_sched.specs.declared.places.Place.{Place}
-use Rattle.or_sched.specs.declared.places.Place.TheVariants.{First}
 use Rattle.or_sched.specs.HeadText.{head_text1, head_text2}
-use Rattle.or_sched.specs.HeadLines.{known_text, KnownFits, IsHeadText}
+use Rattle.or_sched.specs.HeadLines.{KnownFits}
 use Rattle.or_sched.specs.Runs.{runs}
 use Rattle.or_sched.specs.Blocks.{Item, run_item, blocks_items, turns_of, marks_of}
 use Rattle.or_sched.specs.BlockRests.{behind_of}
-use Rattle.or_sched.specs.Ended.{EndedItems, Passed, PlaceAt, ended_in}
+use Rattle.or_sched.specs.Ended.{Passed, PlaceAt, ended_in}
 use Rattle.or_sched.specs.Places.{Completes, IsSound, AreLimits, StepKeeps, StepRefuses, IsNumberBelow}
 use Rattle.or_sched.specs.Recording.{IsRecording1, IsRecording2, IsRecording, Begins, FaultAt, Ended, AreEnded, line_feeds}
 use Rattle.or_sched.specs.Reading.{HeadRead, HasReached, BodyRead, HeadIs, head_of, limits_of, first_of, first_block_of}

@@ -1,14 +1,14 @@
 -- A byte in a digest.
-use Rattle.std.proofs.Common.{◌≡◌, ◌≢◌, ◌∙◌, sym, ap, subst, ℕ, zero, suc, List, ◌++◌, ◌∷◌, [], ◌+◌, ◌-◌, ◌*◌, ◌/◌, ◌%◌, ◌≤◌, ◌<◌, append_assoc, append-nil, arith, refl, length, length-append, take, inl, inr, ◌⊎◌, false, Option, Some, None}
+use Rattle.std.proofs.Common.{◌≡◌, ◌∙◌, sym, ap, subst, ℕ, zero, suc, List, ◌++◌, ◌∷◌, [], ◌+◌, ◌-◌, ◌*◌, ◌/◌, ◌%◌, ◌≤◌, ◌<◌, append_assoc, append-nil, arith, refl, length, length-append, take, inl, inr, ◌⊎◌, false, Option, Some, None}
 use Rattle.std.proofs.lemmas.Bool.{cases_lt}
 use Rattle.std.proofs.lemmas.Bool.Decides.{nat_tests}
 use Rattle.std.proofs.lemmas.List.{length-replicate, take_all, take_more_set}
 use Rattle.std.proofs.lemmas.List.Elements.{recursion_from_All, All-from_recursion}
 use Rattle.std.proofs.Math.ListN.{set, length-set}
-use Rattle.std.specs.Prelude.{replicate, All, slice_set}
+use Rattle.std.specs.Prelude.{replicate, slice_set}
 use Rattle.std.specs.List.{AllByRecursion}
 use Rattle.std.specs.Fmt.{digit_glyph}
-use Rattle.or_text.specs.Hexadecimal.{byte_text, digest_text}
+use Rattle.or_text.specs.Hexadecimal.{digest_text}
 use Rattle.or_sched.specs.HeadText.{IsDigest}
 use Rattle.or_sched.specs.HeadPlaces.{InDigest}
 

@@ -1,19 +1,18 @@
 -- The runs and marks that have ended, as bytes come.
-use Rattle.std.proofs.Common.{◌≡◌, ◌≢◌, ◌∙◌, sym, ap, subst, ℕ, zero, suc, List, ◌++◌, ◌∷◌, [], ◌+◌, ◌-◌, ◌≤◌, ◌<◌, append_assoc, append-nil, arith, refl, length, length-append, length-take, take, inl, inr, ◌⊎◌, decimal, Option, Some, None}
+use Rattle.std.proofs.Common.{◌≡◌, ◌∙◌, sym, ap, subst, ℕ, zero, suc, List, ◌++◌, ◌∷◌, [], ◌+◌, ◌-◌, ◌≤◌, ◌<◌, append-nil, arith, refl, length, length-append, inl, inr, ◌⊎◌, decimal}
 use Rattle.std.specs.Prelude.{codes}
 use Rattle.std.proofs.lemmas.Bool.Decides.{nat_tests}
 use Rattle.or_sched.specs.declared.places.Limits.{Limits}
 use Rattle.or_sched.specs.declared.recording.Mark.{Mark}
-use Rattle.or_sched.specs.declared.places.Block.{Block}
 use Rattle.or_sched.specs.declared.places.Begun.{Begun}
 use Rattle.or_sched.specs.declared.places.Place.{Place}
 use Rattle.or_sched.specs.declared.places.Place.TheVariants.{First, Run, Line, Word, Writes, Console, Done}
 use Rattle.or_sched.specs.declared.places.Step.TheVariants.{Goes, EndsRun, EndsMark}
-use Rattle.or_sched.specs.Runs.{run_text, count_text}
-use Rattle.or_sched.specs.RunRests.{number_text, AtLine, InRun}
+use Rattle.or_sched.specs.Runs.{count_text}
+use Rattle.or_sched.specs.RunRests.{number_text, AtLine}
 use Rattle.or_sched.specs.Blocks.{Item, mark_line}
 use Rattle.or_sched.specs.BlockRests.{Later, items, Behind}
-use Rattle.or_sched.specs.Places.{Completes, IsSound, AreLimits, digits_text, InNumber}
+use Rattle.or_sched.specs.Places.{Completes, IsSound, digits_text}
 use Rattle.or_sched.proofs.PlaceLemmas.{nothing_behind}
 use Rattle.or_sched.specs.Ended.{run_length, room_after, mark_length, ended_in, Passed, PlaceAt, StepPlaces, EndedItems}
 

@@ -1,5 +1,5 @@
 -- Where a text may end.
-use Rattle.std.proofs.Common.{◌≡◌, ◌≢◌, ◌∙◌, sym, ap, subst, ℕ, zero, suc, List, ◌++◌, ◌∷◌, [], ◌+◌, ◌-◌, ◌≤◌, ◌<◌, append_assoc, append-nil, arith, refl, length, length-append, length-take, take, drop, inl, inr, ◌⊎◌, true, false, decimal}
+use Rattle.std.proofs.Common.{◌≡◌, ◌∙◌, ap, ℕ, zero, suc, List, ◌++◌, ◌∷◌, [], ◌+◌, ◌≤◌, ◌<◌, arith, refl, length, length-append, length-take, take, drop, inl, inr, true, false, decimal}
 use Rattle.std.specs.Prelude.{codes}
 use Rattle.or_sched.specs.declared.places.Limits.{Limits}
 use Rattle.or_sched.specs.declared.places.Place.{Place}
@@ -9,7 +9,7 @@ use Rattle.or_sched.specs.Runs.{lines_text, runs, block_text}
 use Rattle.or_sched.specs.RunRests.{AtLine}
 use Rattle.or_sched.specs.Blocks.{Item, mark_line, blocks_text}
 use Rattle.or_sched.specs.BlockRests.{Later, items, Behind}
-use Rattle.or_sched.specs.Places.{Completes, IsSound, AreLimits, ends_at}
+use Rattle.or_sched.specs.Places.{Completes, IsSound, ends_at}
 use Rattle.or_sched.proofs.EndedLemmas.{mark_long}
 use Rattle.or_sched.proofs.PlaceLemmas.{nothing_behind, is_nothing_behind}
 

@@ -1,9 +1,8 @@
 -- Laws of faults.
-use Rattle.std.proofs.Common.{◌≡◌, ◌≢◌, ◌∙◌, sym, ap, subst, ℕ, List, ◌++◌, ◌∷◌, [], ◌+◌, ◌≤◌, ◌<◌, append_assoc, append-nil, arith, refl, length, length-append, length-take, take, drop, inl, inr, ◌⊎◌}
+use Rattle.std.proofs.Common.{◌≡◌, ◌∙◌, sym, ap, subst, ℕ, List, ◌++◌, ◌+◌, ◌≤◌, ◌<◌, append_assoc, arith, refl, length, length-take, take, drop, inl, inr, ◌⊎◌}
 use Rattle.std.proofs.lemmas.Bool.{cases_lt}
 use Rattle.std.proofs.lemmas.Bool.Decides.{nat_tests}
 use Rattle.std.proofs.lemmas.List.{take-take, take-append-drop, take-append-le, take_at}
-use Rattle.or_sched.specs.declared.recording.RecFault.{RecFault}
 use Rattle.or_sched.specs.declared.recording.RecFault.TheVariants.{BadHead, BadRun}
 use Rattle.or_sched.specs.Recording.{IsRecording, Begins, FaultAt, line_feeds, fault_name}
 

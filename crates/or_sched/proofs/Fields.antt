@@ -2,7 +2,7 @@
 use Rattle.std.proofs.Common.{◌≡◌, ◌≢◌, ◌∙◌, sym, ap, subst, ℕ, zero, suc, List, ◌++◌, ◌∷◌, [], ◌+◌, ◌-◌, ◌*◌, ◌/◌, ◌%◌, ◌^◌, ◌≤◌, ◌<◌, decimal, append_assoc, append-nil, arith, refl, length, get_or, length-append, Option, Some, None}
 use Rattle.std.proofs.lemmas.Fmt.{first_decimal, decimal_nonempty, decimal_injective, decimal_digit, decimal_step}
 use Rattle.std.specs.Prelude.{IfSome}
-use Rattle.or_sched.specs.Places.{digits_text, InNumber, DigitIs, DigitTo, WithinIs}
+use Rattle.or_sched.specs.Places.{digits_text, InNumber, DigitIs, WithinIs}
 use Rattle.or_sched.proofs.Numbers.{front_le, behind_digit}
 
 abbrev pub value_of : Option ℕ → ℕ

@@ -1,8 +1,8 @@
 -- A byte in the first two lines.
-use Rattle.std.proofs.Common.{◌≡◌, ◌≢◌, ◌∙◌, sym, ap, subst, ℕ, zero, suc, List, ◌++◌, ◌∷◌, [], ◌+◌, ◌*◌, ◌^◌, ◌≤◌, ◌<◌, append_assoc, append-nil, arith, refl, length, get_or, take, inl, inr, ◌⊎◌, decimal, Option, Some, None}
+use Rattle.std.proofs.Common.{◌≡◌, ◌∙◌, sym, ap, subst, ℕ, zero, suc, List, ◌++◌, ◌∷◌, [], ◌+◌, ◌^◌, ◌≤◌, ◌<◌, arith, length, get_or, take, decimal, Option, Some, None}
 use Rattle.std.proofs.lemmas.List.{append_cancel_left, take_all}
-use Rattle.or_sched.specs.Places.{InNumber, digits_text, DigitIs, DigitTo}
-use Rattle.or_sched.specs.HeadPlaces.{InText, InField, IsNumberFrom}
+use Rattle.or_sched.specs.Places.{digits_text, DigitIs, DigitTo}
+use Rattle.or_sched.specs.HeadPlaces.{InText, InField}
 use Rattle.or_sched.proofs.Fields.{field_end, field_end_back, field_value, field_none, zero_value}
 
 -- a byte in a text must be its next

@@ -1,9 +1,8 @@
 -- What the bytes of a head tell.
-use Rattle.std.proofs.Common.{◌≡◌, ◌≢◌, ◌∙◌, sym, ap, subst, ℕ, zero, suc, List, ◌++◌, ◌∷◌, [], ◌+◌, ◌-◌, ◌*◌, ◌^◌, ◌≤◌, ◌<◌, append_assoc, append-nil, arith, refl, length, length-append, length-take, inl, inr, ◌⊎◌, decimal, zero-add, Bool, true, false, cond, eqb, Option, Some, None, take, drop}
-use Rattle.std.specs.Prelude.{codes, count_by, ◌==◌, map, if◌then◌else◌}
+use Rattle.std.proofs.Common.{◌≡◌, sym, ap, subst, ℕ, List, ◌++◌, ◌∷◌, [], ◌+◌, ◌-◌, ◌^◌, ◌≤◌, ◌<◌, append_assoc, arith, refl, length, length-append, length-take, inl, inr, ◌⊎◌, decimal, zero-add, Bool, true, false, cond, Option, None, take}
+use Rattle.std.specs.Prelude.{codes, ◌==◌, map}
 use Rattle.std.proofs.lemmas.List.{take_at, take_all}
 use Rattle.std.proofs.lemmas.List.Sums.{sum_by-append}
-use Rattle.std.proofs.lemmas.Bool.Decides.{nat_tests}
 use Rattle.or_sched.specs.declared.recording.Head.{Head}
 use Rattle.or_sched.specs.declared.recording.Mark.{Mark}
 use Rattle.or_sched.specs.declared.head.Known.{Known}
@@ -16,20 +15,20 @@ use Rattle.or_sched.specs.declared.head.HeadPlace.{HeadPlace}
 use Rattle.or_sched.specs.declared.head.HeadPlace.TheVariants.{Text, Version, LineEnd, Number, Digits, Behind}
 use Rattle.or_sched.specs.HeadText.{head_text1, head_text2, form_text}
 use Rattle.or_text.specs.Hexadecimal.{digest_text}
-use Rattle.or_sched.specs.HeadPlaces.{InText, InField, InDigest, literal_bytes, AtRam, AtBudget, AtCores, AtFirst, AtSecond, AtVersion, AtImage, AtInput, AtBehind, HeadCompletes, HeadStepKeeps, HeadSound, AreDigests, FollowsLiteral, line_of, feed}
+use Rattle.or_sched.specs.HeadPlaces.{InText, InField, InDigest, literal_bytes, AtRam, AtBudget, AtCores, AtFirst, AtSecond, AtVersion, AtImage, AtInput, HeadCompletes, HeadStepKeeps, HeadSound, AreDigests, FollowsLiteral, line_of, feed}
 use Rattle.or_sched.specs.HeadLines.{input_text, image_text, ram_text, budget_text, cores_text, known_text, KnownFits, IsHeadText}
 use Rattle.or_sched.specs.RecText.{rec_text1, rec_text2}
 use Rattle.or_sched.specs.Runs.{runs, block_text}
 use Rattle.or_sched.specs.Blocks.{Item, run_item, blocks_items, blocks_text, turns_of, marks_of}
 use Rattle.or_sched.specs.Ended.{ended_in}
-use Rattle.or_sched.specs.Recording.{IsRecording1, IsRecording2, IsRecording, Begins, FaultAt, Ended, AreEnded, line_feeds}
+use Rattle.or_sched.specs.Recording.{IsRecording, Begins, FaultAt, Ended, AreEnded, line_feeds}
 use Rattle.or_sched.specs.Reading.{HeadRead, head_of}
 use Rattle.or_sched.proofs.HeadTexts.{head_from, head_to}
 use Rattle.or_sched.proofs.HeadWitness.{Completed, head_completes}
 use Rattle.or_sched.proofs.EndedLemmas.{run_open, mark_open}
 use Rattle.or_sched.proofs.Lengths.{decimal_length}
 use Rattle.or_sched.proofs.Digests.{digest_length}
-use Rattle.or_sched.proofs.Wholes.{known_of, says1, says2, some_recording, text1, text2}
+use Rattle.or_sched.proofs.Wholes.{known_of, says1, says2, some_recording}
 
 pub line_feeds_append : (a b : List ℕ) → line_feeds (a ++ b) ≡ line_feeds a + line_feeds b
 line_feeds_append a b = sum_by-append (λ byte. cond (byte == 10) 1 0) a b

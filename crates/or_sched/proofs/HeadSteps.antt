@@ -1,5 +1,5 @@
 -- A byte in a number of the second line.
-use Rattle.std.proofs.Common.{◌≡◌, ◌≢◌, ◌∙◌, sym, ap, subst, ℕ, zero, suc, List, ◌++◌, ◌∷◌, [], ◌+◌, ◌*◌, ◌^◌, ◌≤◌, ◌<◌, arith, refl, length, get_or, inl, inr, ◌⊎◌, Option, Some, None, true, false}
+use Rattle.std.proofs.Common.{◌≡◌, ◌≢◌, ◌∙◌, sym, ap, subst, ℕ, List, ◌++◌, ◌∷◌, [], ◌+◌, ◌*◌, ◌≤◌, ◌<◌, arith, refl, length, get_or, inl, inr, Option, Some, None, true, false}
 use Rattle.std.specs.Prelude.{slice_set}
 use Rattle.std.specs.Fmt.{digit_glyph}
 use Rattle.or_sched.specs.declared.head.Known.{Known}
@@ -7,15 +7,14 @@ use Rattle.or_sched.specs.declared.head.Literal.{Literal}
 use Rattle.or_sched.specs.declared.head.Literal.TheVariants.{Orsched, Cores, Budget, Ram, Latched, Image, Input}
 use Rattle.or_sched.specs.declared.head.Field.{Field}
 use Rattle.or_sched.specs.declared.head.Field.TheVariants.{Cores as CoresField, Budget as BudgetField, Ram as RamField}
-use Rattle.or_sched.specs.declared.head.HeadPlace.TheVariants.{Text, Version, LineEnd, Number, Digits, Behind}
-use Rattle.or_sched.specs.declared.head.TopLine.TheVariants.{First, Second}
+use Rattle.or_sched.specs.declared.head.HeadPlace.TheVariants.{Text, Number, Digits}
 use Rattle.or_sched.specs.declared.head.DigestLine.{DigestLine}
 use Rattle.or_sched.specs.declared.head.DigestLine.TheVariants.{Image as ImageLine, Input as InputLine}
 use Rattle.or_text.specs.Hexadecimal.{digest_text}
 use Rattle.or_sched.specs.HeadText.{IsDigest}
 use Rattle.or_sched.proofs.Digests.{IsHex, digest_on, digest_back, digest_end, digest_ended, digest_set, high_more, low_more, so_far_whole, so_far_even, so_far_odd}
 use Rattle.or_sched.specs.Places.{DigitIs, DigitTo}
-use Rattle.or_sched.specs.HeadPlaces.{InText, InField, InDigest, literal_bytes, behind_literal, behind_digest, AtNumber, AtRam, AtImage, AtInput, AtDigits, AtBehind, AtBudget, FollowsLiteral, HeadCompletes, HeadStepKeeps, field_most, digest_of, digits_so_far, with_byte, IsHigh, AreDigests}
+use Rattle.or_sched.specs.HeadPlaces.{literal_bytes, behind_literal, behind_digest, AtNumber, AtRam, AtDigits, FollowsLiteral, HeadCompletes, HeadStepKeeps, field_most, digest_of, digits_so_far, with_byte, IsHigh, AreDigests}
 use Rattle.or_sched.proofs.HeadLemmas.{text_on, text_back, text_end, text_whole, field_there, field_from, field_no, field_zero, field_ends, field_none_ends, field_ended}
 
 -- behind a text stands what follows it

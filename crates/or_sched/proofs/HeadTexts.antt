@@ -1,5 +1,5 @@
 -- The texts that the first place of the head completes are the four lines.
-use Rattle.std.proofs.Common.{◌≡◌, ◌≢◌, ◌∙◌, sym, ap, subst, ℕ, zero, suc, List, ◌++◌, ◌∷◌, [], ◌+◌, ◌≤◌, ◌<◌, append_assoc, append-nil, arith, refl, length, inl, inr, ◌⊎◌, decimal, Option, Some, None, true, false}
+use Rattle.std.proofs.Common.{◌≡◌, ◌∙◌, sym, ap, subst, ℕ, List, ◌++◌, ◌∷◌, [], ◌+◌, ◌≤◌, arith, refl, inl, inr, ◌⊎◌, decimal, None, true, false}
 use Rattle.std.specs.Prelude.{codes, Bool}
 use Rattle.std.proofs.lemmas.Fmt.{decimal_digit}
 use Rattle.or_text.specs.Hexadecimal.{digest_text}
@@ -8,8 +8,8 @@ use Rattle.or_sched.specs.declared.head.Known.{Known}
 use Rattle.or_sched.specs.declared.head.Literal.TheVariants.{Orsched, Cores, Budget, Ram, Latched, Image, Input}
 use Rattle.or_sched.specs.declared.head.HeadPlace.TheVariants.{Text}
 use Rattle.or_sched.specs.Places.{InNumber}
-use Rattle.or_sched.specs.HeadPlaces.{InText, InField, InDigest, literal_bytes, AtRam, AtBudget, AtCores, AtFirst, AtSecond, AtVersion, AtImage, AtInput, AtBehind, HeadCompletes, AreDigests}
-use Rattle.or_sched.specs.HeadLines.{input_text, image_text, ram_text, budget_text, cores_text, known_text, KnownFits, IsHeadText}
+use Rattle.or_sched.specs.HeadPlaces.{InText, literal_bytes, AtRam, AtBudget, AtCores, AtFirst, AtSecond, AtVersion, AtImage, AtInput, HeadCompletes, AreDigests}
+use Rattle.or_sched.specs.HeadLines.{input_text, image_text, ram_text, budget_text, cores_text, KnownFits, IsHeadText}
 use Rattle.or_sched.proofs.Digests.{digest_from}
 
 -- a number with its end

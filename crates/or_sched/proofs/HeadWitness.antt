@@ -1,5 +1,5 @@
 -- Each place of the head is completed by some text, whatever stands behind the head.
-use Rattle.std.proofs.Common.{◌≡◌, ◌∙◌, sym, ap, ℕ, zero, suc, List, ◌++◌, ◌∷◌, [], ◌+◌, ◌≤◌, ◌<◌, append_assoc, append-nil, arith, refl, length, inl, inr, decimal, Option, Some, None, take, drop, false}
+use Rattle.std.proofs.Common.{◌∙◌, sym, ap, ℕ, List, ◌++◌, ◌∷◌, [], ◌≤◌, append_assoc, append-nil, arith, refl, length, inl, decimal, Option, Some, None, take, drop, false}
 use Rattle.std.proofs.lemmas.List.{take-append-drop}
 use Rattle.or_sched.specs.declared.head.Known.{Known}
 use Rattle.or_sched.specs.declared.head.Literal.{Literal}
@@ -12,10 +12,8 @@ use Rattle.or_sched.specs.declared.head.TopLine.{TopLine}
 use Rattle.or_sched.specs.declared.head.TopLine.TheVariants.{First, Second}
 use Rattle.or_sched.specs.declared.head.DigestLine.{DigestLine}
 use Rattle.or_sched.specs.declared.head.DigestLine.TheVariants.{Image as ImageLine, Input as InputLine}
-use Rattle.or_sched.specs.HeadText.{IsDigest}
 use Rattle.or_sched.proofs.Digests.{Filled, filled, so_far_hex, so_far_short, AreHex}
-use Rattle.or_sched.specs.Places.{InNumber}
-use Rattle.or_sched.specs.HeadPlaces.{InText, InField, InDigest, literal_bytes, AtRam, AtBudget, AtCores, AtFirst, AtSecond, AtVersion, AtImage, AtInput, AtBehind, FollowsLiteral, HeadCompletes, HeadSound, IsNumberFrom, AreDigests, digits_so_far}
+use Rattle.or_sched.specs.HeadPlaces.{InText, InField, literal_bytes, AtRam, AtBudget, AtCores, AtFirst, AtSecond, AtVersion, AtImage, AtInput, FollowsLiteral, HeadCompletes, HeadSound, IsNumberFrom, AreDigests, digits_so_far}
 
 pub record Completed (P : Known → List ℕ → List ℕ → Type 0) : Type 0 where
   pub final : Known

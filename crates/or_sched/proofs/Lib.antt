@@ -26,3 +26,4 @@ pub mod Ends
 pub mod Faults
 pub mod ReaderLemmas
 pub mod ReaderEnds
+pub mod Unique

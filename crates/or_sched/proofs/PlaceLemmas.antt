@@ -1,19 +1,17 @@
 -- What leads to each place.
-use Rattle.std.proofs.Common.{◌≡◌, ◌≢◌, ◌∙◌, sym, ap, subst, ℕ, zero, suc, List, ◌++◌, ◌∷◌, [], ◌+◌, ◌-◌, ◌*◌, ◌^◌, ◌≤◌, ◌<◌, decimal, append_assoc, append-nil, arith, refl, length, min, Option, Some, None, inl, inr, ◌⊎◌, true, false, take}
-use Rattle.std.specs.Prelude.{codes, nat_le, map}
+use Rattle.std.proofs.Common.{◌≡◌, ◌∙◌, sym, ap, subst, ℕ, zero, suc, List, ◌++◌, ◌∷◌, [], ◌-◌, ◌≤◌, ◌<◌, append-nil, arith, refl, length, min, Option, Some, None, inl, inr}
 use Rattle.std.proofs.lemmas.Bool.Decides.{nat_tests}
 use Rattle.or_sched.specs.declared.recording.Mark.{Mark}
 use Rattle.or_sched.specs.declared.places.Limits.{Limits}
 use Rattle.or_sched.specs.declared.places.Block.{Block}
-use Rattle.or_sched.specs.declared.places.Begun.{Begun}
 use Rattle.or_sched.specs.declared.places.Place.{Place}
-use Rattle.or_sched.specs.declared.places.Place.TheVariants.{First, Run, Line, Word, Writes, Console, Done}
+use Rattle.or_sched.specs.declared.places.Place.TheVariants.{Line, Word, Done}
 use Rattle.or_sched.specs.Runs.{lines_text}
-use Rattle.or_sched.specs.RunRests.{Follow, left_after, InRun, Opens, AtRun, AtLine, AtEnd}
-use Rattle.or_sched.specs.Blocks.{Item, run_item, mark_line}
+use Rattle.or_sched.specs.RunRests.{AtRun, AtLine, AtEnd}
+use Rattle.or_sched.specs.Blocks.{Item, mark_line}
 use Rattle.or_sched.specs.BlockRests.{Later, items, later_items, Behind, behind_of}
-use Rattle.or_sched.specs.Places.{Completes, Decoded, Marked, Onward, InNumber, IsSound, AreLimits, Leads, StepKeeps, StepRefuses, OpensTo}
-use Rattle.or_sched.proofs.Steps.{opened, letter_back, opens_on, opens_back}
+use Rattle.or_sched.specs.Places.{Decoded, Marked, Onward, AreLimits, Leads}
+use Rattle.or_sched.proofs.Steps.{opened, letter_back}
 
 -- behind a block that lacks turns, or behind which no mark comes, stands nothing
 pub nothing_behind : (limits : Limits) (behind : Option ℕ) (left : ℕ) (text : List ℕ) (later : Later) → 0 < left

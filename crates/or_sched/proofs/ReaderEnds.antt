@@ -1,24 +1,22 @@
 -- What a reader tells: its head, what was read to the end, and the end of the text.
-use Rattle.std.proofs.Common.{◌≡◌, ◌≢◌, ◌∙◌, sym, ap, subst, ℕ, zero, suc, List, ◌++◌, ◌∷◌, [], ◌+◌, ◌-◌, ◌≤◌, ◌<◌, append_assoc, append-nil, arith, refl, length, length-append, inl, inr, ◌⊎◌, Option, Some, None, take, drop, true, false, Result, Ok, Err}
+use Rattle.std.proofs.Common.{◌≡◌, ◌∙◌, sym, ap, subst, ℕ, List, ◌++◌, [], ◌≤◌, ◌<◌, append_assoc, append-nil, arith, refl, length, length-append, inl, inr, ◌⊎◌, Option, Some, None, take, drop, true, false}
 use Rattle.std.specs.Prelude.{map}
 use Rattle.std.proofs.lemmas.Bool.{cases_lt}
 use Rattle.std.proofs.lemmas.List.{take_at, take-append-drop, take-append-le}
 use Rattle.or_sched.specs.declared.recording.Head.{Head}
 use Rattle.or_sched.specs.declared.recording.Mark.{Mark}
-use Rattle.or_sched.specs.declared.recording.RecFault.{RecFault}
 use Rattle.or_sched.specs.declared.recording.RecFault.TheVariants.{BadHead, BadRun, Short, NoMemory}
 use Rattle.or_sched.specs.declared.places.Limits.{Limits}
 use Rattle.or_sched.specs.declared.places.Place.{Place}
 use Rattle.or_sched.specs.declared.state.Heading.{Heading}
 use Rattle.or_sched.specs.declared.state.State.{State}
 use Rattle.or_sched.specs.declared.state.State.TheVariants.{Head as HeadState, Body as BodyState, Failed}
-use Rattle.or_sched.specs.RecText.{rec_text1, rec_text2}
 use Rattle.or_sched.specs.Runs.{runs, block_text}
 use Rattle.or_sched.specs.Blocks.{Item, run_item, blocks_items, blocks_text, turns_of, marks_of}
 use Rattle.or_sched.specs.Places.{Completes, IsSound, ends_at}
 use Rattle.or_sched.specs.Recording.{IsRecording1, IsRecording2, IsRecording, Begins, FaultAt, Ended, IsReadable, line_feeds}
-use Rattle.or_sched.specs.Reading.{HeadIs, HeadingRead, BodyRead, FaultRead, PartRead, BehindHead, StateRead, IsReading, ReadAll, IsWhole, IsShort, head_of, first_of, limits_of}
-use Rattle.or_sched.proofs.Faults.{no_fault, fault_less, begins_front}
+use Rattle.or_sched.specs.Reading.{HeadIs, HeadingRead, BodyRead, BehindHead, StateRead, IsReading, ReadAll, IsWhole, IsShort, head_of, first_of, limits_of}
+use Rattle.or_sched.proofs.Faults.{no_fault, fault_less}
 use Rattle.or_sched.proofs.Ends.{not_end, is_end, nothing_more, block_some, blocks_some}
 use Rattle.or_sched.proofs.Wholes.{known_of, says1, says2}
 use Rattle.or_sched.proofs.HeadReading.{line_feeds_append, head_begins, head_ended, few_lines, within_place}

@@ -1,6 +1,5 @@
 -- What a byte, or a piece, makes of what a reader has read.
-use Rattle.std.proofs.Common.{◌≡◌, ◌≢◌, ◌∙◌, sym, ap, subst, ℕ, zero, suc, List, ◌++◌, ◌∷◌, [], ◌+◌, ◌-◌, ◌*◌, ◌%◌, ◌^◌, ◌≤◌, ◌<◌, append_assoc, append-nil, arith, refl, length, length-append, inl, inr, ◌⊎◌, Option, Some, None, take, Result, Ok, Err}
-use Rattle.std.specs.Prelude.{replicate}
+use Rattle.std.proofs.Common.{◌≡◌, ◌∙◌, sym, ap, subst, ℕ, List, ◌++◌, ◌∷◌, [], ◌+◌, ◌%◌, ◌^◌, ◌≤◌, ◌<◌, append_assoc, append-nil, arith, refl, length, length-append, Option, Some, take}
 use Rattle.std.proofs.lemmas.List.{take_at, take-append-le}
 use Rattle.or_sched.specs.declared.recording.Head.{Head}
 use Rattle.or_sched.specs.declared.recording.Mark.{Mark}
@@ -19,11 +18,11 @@ use Rattle.or_sched.specs.Blocks.{Item, turns_of, marks_of}
 use Rattle.or_sched.specs.Ended.{PlaceAt}
 use Rattle.or_sched.specs.Places.{IsSound, StepKeeps, StepRefuses}
 use Rattle.or_sched.specs.HeadPlaces.{HeadCompletes, HeadStepKeeps, AreDigests, line_of, feed}
-use Rattle.or_sched.specs.Recording.{IsRecording, Begins, FaultAt, Ended, line_feeds, fault_name}
-use Rattle.or_sched.specs.Reading.{HeadRead, HeadIs, HeadingRead, BodyRead, FaultRead, IsFront, PartRead, FailedRead, FailedHead, StateRead, HasRead, HasFailed, Fed, IsAt, AnswerIs, head_of, limits_of, first_of}
+use Rattle.or_sched.specs.Recording.{FaultAt, Ended, line_feeds, fault_name}
+use Rattle.or_sched.specs.Reading.{HeadIs, HeadingRead, BodyRead, FaultRead, IsFront, StateRead, HasRead, HasFailed, Fed, IsAt, head_of, limits_of, first_of}
 use Rattle.or_sched.proofs.EndedLemmas.{Counted}
-use Rattle.or_sched.proofs.Faults.{one_fault, fault_more, fault_less, name_head, name_run}
-use Rattle.or_sched.proofs.HeadReading.{head_read_none, head_read_moves, head_fault, head_ended, few_lines, head_short}
+use Rattle.or_sched.proofs.Faults.{one_fault, fault_more, name_head, name_run}
+use Rattle.or_sched.proofs.HeadReading.{head_read_moves, head_fault, head_ended, few_lines, head_short}
 use Rattle.or_sched.proofs.BodyReading.{body_none, body_begins, body_fault, body_ended, body_lines, body_head, body_moves}
 
 module _ (head : Option Head) (heading : Heading) (byte : ℕ) (bytes turns : List ℕ) (marks : List Mark) (read : HeadingRead head heading bytes turns marks) where

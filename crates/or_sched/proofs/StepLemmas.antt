@@ -1,16 +1,14 @@
 -- A byte at each place.
-use Rattle.std.proofs.Common.{◌≡◌, ◌≢◌, ◌∙◌, sym, ap, subst, ℕ, zero, suc, List, ◌++◌, ◌∷◌, [], ◌+◌, ◌-◌, ◌*◌, ◌^◌, ◌≤◌, ◌<◌, decimal, append-nil, arith, refl, max, Option, Some, None, inl, inr}
-use Rattle.or_sched.specs.declared.recording.Mark.{Mark}
+use Rattle.std.proofs.Common.{◌≡◌, ◌≢◌, ◌∙◌, sym, ap, subst, ℕ, List, ◌++◌, ◌∷◌, [], ◌+◌, ◌-◌, ◌*◌, ◌^◌, ◌≤◌, ◌<◌, decimal, append-nil, arith, refl, max, Option, Some, None, inl, inr}
 use Rattle.or_sched.specs.declared.places.Limits.{Limits}
 use Rattle.or_sched.specs.declared.places.Block.{Block}
 use Rattle.or_sched.specs.declared.places.Begun.{Begun}
 use Rattle.or_sched.specs.declared.places.Place.{Place}
-use Rattle.or_sched.specs.declared.places.Place.TheVariants.{First, Run, Line, Word, Writes, Console, Done}
-use Rattle.or_sched.specs.RunRests.{InRun, Opens, AtRun, AtLine, AtEnd}
-use Rattle.or_sched.specs.Blocks.{Item}
+use Rattle.or_sched.specs.declared.places.Place.TheVariants.{First, Run, Line, Writes, Console}
+use Rattle.or_sched.specs.RunRests.{InRun, AtRun, AtLine}
 use Rattle.or_sched.specs.BlockRests.{Later, items, Behind}
-use Rattle.or_sched.specs.Places.{Completes, Decoded, Marked, Onward, InNumber, IsSound, IsNumberBelow, AreLimits, Leads, StepKeeps, StepRefuses, OpensTo, OpenIs, DigitIs, DigitTo}
-use Rattle.or_sched.proofs.Steps.{digit_on, digit_back, run_on, run_back, at_full, at_letter, letter_back, feed_full, feed_short, full_back, short_back}
+use Rattle.or_sched.specs.Places.{Decoded, Marked, Onward, IsSound, AreLimits, Leads, StepKeeps, StepRefuses, OpenIs, DigitIs, DigitTo}
+use Rattle.or_sched.proofs.Steps.{digit_on, digit_back, run_on, run_back}
 use Rattle.or_sched.proofs.Fields.{field_end, field_end_back, field_value, field_none}
 use Rattle.or_sched.proofs.PlaceLemmas.{nothing_behind}
 

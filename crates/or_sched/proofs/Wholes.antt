@@ -1,24 +1,22 @@
 -- A recording is its head and what stands behind it.
-use Rattle.std.proofs.Common.{◌≡◌, ◌≢◌, ◌∙◌, sym, ap, subst, ℕ, zero, suc, List, ◌++◌, ◌∷◌, [], ◌+◌, ◌-◌, ◌*◌, ◌/◌, ◌^◌, ◌≤◌, ◌<◌, append_assoc, append-nil, arith, refl, length, length-append, inl, inr, ◌⊎◌, decimal, Bool, true, false, Option, Some, None, min}
+use Rattle.std.proofs.Common.{◌≡◌, ◌≢◌, ◌∙◌, sym, ap, subst, ℕ, List, ◌++◌, ◌∷◌, [], ◌*◌, ◌≤◌, ◌<◌, append_assoc, append-nil, arith, refl, length, length-append, inl, inr, ◌⊎◌, decimal, Bool, true, false, None, min}
 use Rattle.std.proofs.Math.Nat.{mul-le-mul}
-use Rattle.std.specs.Prelude.{codes, map, All, replicate}
+use Rattle.std.specs.Prelude.{codes, map, All}
 use Rattle.std.proofs.lemmas.Fmt.{decimal_digit}
 use Rattle.std.proofs.lemmas.List.Elements.{All-replicate}
-use Rattle.or_words.specs.Settings.{Fits}
 use Rattle.or_sched.specs.declared.recording.Head.{Head}
 use Rattle.or_sched.specs.declared.recording.Mark.{Mark}
 use Rattle.or_sched.specs.declared.head.Known.{Known}
 use Rattle.or_sched.specs.declared.head.HeadPlace.TheVariants.{Behind}
 use Rattle.or_sched.specs.declared.places.Place.TheVariants.{First}
-use Rattle.or_sched.specs.declared.places.Limits.{Limits}
 use Rattle.or_text.specs.Hexadecimal.{digest_text}
-use Rattle.or_sched.specs.HeadText.{IsDigest, form_text, config_line, digest_line, head_text1, head_text2}
+use Rattle.or_sched.specs.HeadText.{form_text, config_line, digest_line, head_text1, head_text2}
 use Rattle.or_sched.specs.RecText.{rec_text1, rec_text2}
 use Rattle.or_sched.specs.HeadLines.{cores_text, known_text, KnownFits, IsHeadText}
 use Rattle.or_sched.specs.Schedule.{IsSchedule, AreMarks}
 use Rattle.or_sched.specs.Runs.{runs, expand, block_text}
 use Rattle.or_sched.specs.Blocks.{Item, run_item, blocks_items, blocks_text, turns_of, marks_of}
-use Rattle.or_sched.specs.BlockRests.{Later, items, later_items, behind_of, Behind as BehindBlock}
+use Rattle.or_sched.specs.BlockRests.{later_items, behind_of, Behind as BehindBlock}
 use Rattle.or_sched.specs.Places.{Completes, AreLimits}
 use Rattle.or_sched.specs.Body.{IsBody1, IsBody2}
 use Rattle.or_sched.specs.Recording.{IsHead, IsRecording1, IsRecording2, IsRecording}

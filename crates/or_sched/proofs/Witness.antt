@@ -1,18 +1,15 @@
 -- Each place that a reader comes to is completed by some text.
-use Rattle.std.proofs.Common.{◌≡◌, ◌≢◌, ◌∙◌, sym, ap, subst, ℕ, zero, suc, List, ◌++◌, ◌∷◌, [], ◌+◌, ◌-◌, ◌*◌, ◌^◌, ◌≤◌, ◌<◌, decimal, append-nil, arith, refl, max, min, Option, Some, None, inl, inr, ◌⊎◌, take, drop}
+use Rattle.std.proofs.Common.{◌≡◌, ◌≢◌, ◌∙◌, sym, ap, ℕ, zero, suc, List, ◌++◌, ◌∷◌, [], ◌-◌, ◌≤◌, decimal, append-nil, arith, refl, max, Option, Some, None, inl, inr, ◌⊎◌, take, drop}
 use Rattle.std.proofs.lemmas.List.{take-append-drop, append_assoc}
-use Rattle.std.proofs.lemmas.Bool.{cases_lt}
 use Rattle.std.specs.Prelude.{codes}
 use Rattle.or_sched.specs.declared.recording.Mark.{Mark}
 use Rattle.or_sched.specs.declared.places.Limits.{Limits}
-use Rattle.or_sched.specs.declared.places.Block.{Block}
 use Rattle.or_sched.specs.declared.places.Begun.{Begun}
 use Rattle.or_sched.specs.declared.places.Place.{Place}
 use Rattle.or_sched.specs.declared.places.Place.TheVariants.{First, Run, Line, Word, Writes, Console, Done}
-use Rattle.or_sched.specs.RunRests.{InRun, Opens, AtRun, AtLine, AtEnd}
 use Rattle.or_sched.specs.Blocks.{Item, mark_line}
-use Rattle.or_sched.specs.BlockRests.{Later, items, Behind, behind_of}
-use Rattle.or_sched.specs.Places.{Completes, Decoded, Marked, Onward, InNumber, IsSound, IsNumberBelow, AreLimits}
+use Rattle.or_sched.specs.BlockRests.{Later, items, Behind}
+use Rattle.or_sched.specs.Places.{Completes, Marked, InNumber, IsSound, IsNumberBelow, AreLimits}
 use Rattle.or_sched.proofs.Steps.{digit_back, run_back, opens_back, short_back}
 use Rattle.or_sched.proofs.PlaceLemmas.{is_nothing_onward}
 use Rattle.or_sched.proofs.Fields.{field_end_back}

@@ -1,5 +1,5 @@
 -- Places in the head of a recording, and what completes each of them.
-use Rattle.std.specs.Prelude.{◌≡◌, ℕ, ◌+◌, ◌≤◌, ◌<◌, ◌==◌, ◌^◌, List, [], ◌∷◌, ◌++◌, Option, Some, None, codes, decimal, take, drop, length, Bool, true, false, ◌⊎◌, if◌then◌else◌, slice_set, All}
+use Rattle.std.specs.Prelude.{◌≡◌, ℕ, ◌+◌, ◌≤◌, ◌<◌, ◌==◌, List, [], ◌∷◌, ◌++◌, Option, Some, None, codes, take, length, true, false, ◌⊎◌, if◌then◌else◌, slice_set}
 use Rattle.std.specs.Fmt.{digit_glyph}
 use Rattle.std.proofs.Props.{props}
 use Rattle.or_text.specs.Hexadecimal.{digest_text}
@@ -16,7 +16,7 @@ use Rattle.or_sched.specs.declared.head.HeadPlace.{HeadPlace}
 use Rattle.or_sched.specs.declared.head.HeadPlace.TheVariants.{Text, Version, LineEnd, Number, Digits, Behind}
 use Rattle.or_sched.specs.declared.head.HeadStep.{HeadStep}
 use Rattle.or_sched.specs.declared.head.HeadStep.TheVariants.{Refused, Goes}
-use Rattle.or_sched.specs.Places.{InNumber, IsNumberBelow}
+use Rattle.or_sched.specs.Places.{InNumber}
 use Rattle.or_sched.specs.HeadText.{IsDigest}
 
 abbrev pub literal_bytes : Literal → List ℕ

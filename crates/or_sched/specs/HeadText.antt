@@ -1,5 +1,5 @@
 -- The first four lines of a recording.
-use Rattle.std.specs.Prelude.{◌≡◌, ◌<◌, ℕ, List, [], ◌∷◌, ◌++◌, codes, decimal, Bool, if◌then◌else◌, length, All}
+use Rattle.std.specs.Prelude.{◌≡◌, ◌<◌, ℕ, List, [], ◌++◌, codes, decimal, Bool, if◌then◌else◌, length, All}
 use Rattle.or_words.specs.declared.Config.{Config}
 use Rattle.or_sched.specs.declared.recording.Head.{Head}
 use Rattle.or_text.specs.Hexadecimal.{digest_text}

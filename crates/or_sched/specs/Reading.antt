@@ -1,5 +1,5 @@
 -- What a reader has read.
-use Rattle.std.specs.Prelude.{◌≡◌, ℕ, ◌+◌, ◌-◌, ◌*◌, ◌≤◌, ◌<◌, ◌%◌, ◌^◌, ◌==◌, List, [], ◌∷◌, ◌++◌, take, length, Option, Some, None, min, if◌then◌else◌, Result, Ok, Err, nat_le}
+use Rattle.std.specs.Prelude.{◌≡◌, ℕ, ◌+◌, ◌-◌, ◌*◌, ◌≤◌, ◌<◌, ◌==◌, List, [], ◌∷◌, ◌++◌, take, length, Option, Some, None, min, if◌then◌else◌, Result, Ok, Err, nat_le}
 use Rattle.or_sched.specs.declared.recording.Head.{Head}
 use Rattle.or_sched.specs.declared.recording.Mark.{Mark}
 use Rattle.or_sched.specs.declared.head.Known.{Known}
@@ -147,6 +147,10 @@ StateRead head (Failed fault) bytes turns marks = FailedRead fault bytes turns m
 abbrev pub HasRead : Reader → List ℕ → List ℕ → List Mark → Type 0
 HasRead reader bytes turns marks = StateRead reader.head reader.state bytes turns marks
 
+-- the head that the reader keeps
+abbrev pub kept_head : Reader → Option Head
+kept_head reader = reader.head
+
 -- The reader answered this fault, or that memory ran out.
 abbrev pub HasFailed : Reader → RecFault → Type 0
 HasFailed reader fault = reader.state ≡ Failed fault
@@ -214,7 +218,7 @@ pub record IsShort (bytes : List ℕ) : Type 0 where
 
 -- the answer at the end of the bytes
 abbrev pub FinishIs : Reader → List ℕ → List ℕ → List Mark → Result (Unit {0}) RecFault → Type 0
-FinishIs reader bytes turns marks (Ok done) = IsWhole reader.head bytes turns marks
+FinishIs reader bytes turns marks (Ok done) = IsWhole (kept_head reader) bytes turns marks
 FinishIs reader bytes turns marks (Err (BadHead line)) = HasFailed reader (BadHead line) × FailedRead (BadHead line) bytes turns marks
 FinishIs reader bytes turns marks (Err (BadRun at)) = HasFailed reader (BadRun at) × FailedRead (BadRun at) bytes turns marks
 FinishIs reader bytes turns marks (Err Short) = IsShort bytes

@@ -1,5 +1,5 @@
 -- What text is a recording, where a text stops being the beginning of one, and what has ended in a beginning.
-use Rattle.std.specs.Prelude.{◌≡◌, ℕ, ◌+◌, ◌-◌, ◌<◌, ◌==◌, List, [], ◌∷◌, ◌++◌, take, length, map, count_by, Bool, false, ◌⊎◌, if◌then◌else◌, nat_lt}
+use Rattle.std.specs.Prelude.{◌≡◌, ℕ, ◌+◌, ◌-◌, ◌<◌, ◌==◌, List, [], ◌++◌, take, length, map, count_by, false, ◌⊎◌, if◌then◌else◌, nat_lt}
 use Rattle.or_words.specs.Settings.{Fits}
 use Rattle.or_sched.specs.declared.recording.Head.{Head}
 use Rattle.or_sched.specs.declared.recording.Mark.{Mark}
@@ -55,12 +55,6 @@ line_feeds bytes = count_by (λ byte. byte == 10) bytes
 -- in the first four lines, their line feeds among them, a fault is named by its line, and behind them by its place
 abbrev pub fault_name : List ℕ → RecFault
 fault_name front = if nat_lt (line_feeds front) 4 then BadHead (line_feeds front + 1) else BadRun (length front)
-
--- the fault of these bytes has this name
-pub record HasFault (bytes : List ℕ) (fault : RecFault) : Type 0 where
-  pub place : ℕ
-  pub is : FaultAt bytes place
-  pub name : fault ≡ fault_name (take place bytes)
 
 -- the turns and the marks of the items that have ended in the first `n` bytes behind the head
 pub record AreEnded (n : ℕ) (items : List Item) (turns : List ℕ) (marks : List Mark) : Type 0 where

@@ -6,7 +6,7 @@ ghost use Rattle.or_sched.specs.declared.state.State.{State};
 ghost use Rattle.or_sched.specs.HeadPlaces.{HasSettings};
 ghost use Rattle.or_sched.specs.Places.{ends_at, IsSound};
 ghost use Rattle.or_sched.specs.Recording.{IsReadable};
-ghost use Rattle.or_sched.specs.Reading.{limits_of, first_of, first_block_of, IsAt, IsFront, HasRead, HasFailed, HeadIs, HeadFed, Fed, AnswerIs, IsReading, Tells, Stays, StaysFailed, FinishIs};
+ghost use Rattle.or_sched.specs.Reading.{limits_of, first_of, first_block_of, IsAt, IsFront, HasRead, HasFailed, kept_head, HeadIs, HeadFed, Fed, AnswerIs, IsReading, Tells, Stays, StaysFailed, FinishIs};
 
 use crate::head::{HeadPlace, HeadStep, Known, Literal, head_step, line};
 use crate::places::{Block, Limits, Place, Step};
@@ -18,7 +18,7 @@ use std::alloc::AllocError;
 // How many turns a block has.
 const BLOCK: u64 = 65536;
 
-/// A reader of a recording, which keeps neither its bytes nor its turns.
+/// A reader of a recording in version 1 or 2, which keeps neither its bytes nor its turns.
 #[derive(Drop)]
 pub struct Reader {
     pub(crate) head: Option<Head>,
@@ -26,7 +26,7 @@ pub struct Reader {
 }
 
 impl Reader {
-    /// A reader of which no byte was asked yet.
+    /// A reader that has been fed nothing.
     pub fn new() -> Reader
         ensures { HasRead result [] [] [] }
     {
@@ -40,15 +40,17 @@ impl Reader {
         }
     }
 
-    /// The head, where its fourth line has ended.
+    /// The head of the recording: None exactly until its fourth line has ended.
     pub fn head(&self) -> Option<Head>
+        ensures kept { result ≡ kept_head self.now }
         // It is that of each recording that begins as the bytes do, up to a fault.
-        ensures { (bytes turns front : List ℕ) (marks : List Mark) → HasRead self.now bytes turns marks → IsReadable bytes front → HeadIs result front }
+        ensures exact { (bytes turns front : List ℕ) (marks : List Mark) → HasRead self.now bytes turns marks → IsReadable bytes front → HeadIs result front }
     {
         self.head
     }
 
-    /// Whether the bytes that were fed are a recording.
+    /// Whether the bytes that were fed are a recording. Short is answered where they are the beginning of one and none
+    /// yet; any other fault is one that a feed answered.
     pub fn finish(&self) -> Result<(), RecFault>
         ensures exact { (bytes turns : List ℕ) (marks : List Mark) → HasRead self.now bytes turns marks → FinishIs self.now bytes turns marks result }
         ensures failed { (fault : RecFault) → HasFailed self.now fault → result ≡ Err fault }
@@ -67,7 +69,11 @@ impl Reader {
     }
 
     /// Reads a piece of the text, appends the turns of the runs and the marks that end in it, and answers the number of
-    /// these turns.
+    /// these turns. How the text is cut into pieces makes no difference.
+    ///
+    /// BadHead or BadRun comes exactly at the first byte after which no recording goes on; what ended before it is
+    /// appended. NoMemory leaves beginnings of the turns and of the marks appended. Each later call answers the fault that
+    /// was answered, and changes nothing.
     pub fn feed(
         &mut self,
         piece: &[u8],

@@ -1,4 +1,4 @@
-use Rattle.std.proofs.Common.{◌≡◌, ◌≤◌, ◌<◌, sym, subst, ap, arith, ℕ, List, ◌∷◌, Some, None, ◌*◌, ◌+◌, false}
+use Rattle.std.proofs.Common.{◌≡◌, ◌<◌, sym, subst, arith, Some, None, ◌*◌, ◌+◌, false}
 use Rattle.std.specs.Fmt.{digit_glyph}
 use Rattle.or_sched.specs.declared.head.HeadPlace.TheVariants.{Digits}
 use Rattle.or_sched.specs.HeadPlaces.{HeadStepKeeps, IsHigh, AreDigests, with_byte}

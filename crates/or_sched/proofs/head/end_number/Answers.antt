@@ -1,8 +1,7 @@
-use Rattle.std.proofs.Common.{◌≡◌, ◌≤◌, sym, subst, ap, arith, ℕ, List, ◌∷◌, Some, true, false}
+use Rattle.std.proofs.Common.{◌≡◌, ◌≤◌, sym, subst, arith, ◌∷◌, Some, true, false}
 use Rattle.or_sched.specs.declared.head.Known.{Known}
-use Rattle.or_sched.specs.declared.head.Field.TheVariants.{Cores as CoresField, Budget as BudgetField, Ram as RamField}
 use Rattle.or_sched.specs.declared.head.Literal.TheVariants.{Budget, Ram, Latched, Image}
-use Rattle.or_sched.specs.declared.head.HeadPlace.TheVariants.{Text, Number, Behind}
+use Rattle.or_sched.specs.declared.head.HeadPlace.TheVariants.{Text, Number}
 use Rattle.or_sched.specs.HeadPlaces.{AtNumber, HeadStepKeeps, field_most}
 use Rattle.or_sched.proofs.HeadSteps.{cores_other, budget_other, ram_other, cores_end, budget_end, ram_feed, ram_latched}
 use Rattle.or_sched.proofs.head.end_number.Goals as goal

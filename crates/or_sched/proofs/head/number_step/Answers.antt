@@ -1,4 +1,4 @@
-use Rattle.std.proofs.Common.{◌≡◌, ◌≤◌, sym, subst, ap, arith, ℕ, List, ◌∷◌, Some, None}
+use Rattle.std.proofs.Common.{◌≤◌, subst, arith, ◌∷◌, None}
 use Rattle.or_sched.specs.Places.{DigitIs, DigitTo}
 use Rattle.or_sched.specs.HeadPlaces.{AtNumber, field_most}
 use Rattle.or_sched.proofs.HeadSteps.{number_no, number_zero, number_none, number_moves}

@@ -1,4 +1,4 @@
-use Rattle.std.proofs.Common.{◌≡◌, ◌≤◌, ◌+◌, ◌∙◌, sym, subst, ap, arith, ℕ, List, length, get_or, rules}
+use Rattle.std.proofs.Common.{◌≡◌, ◌≤◌, ◌+◌, sym, subst, ap, arith, length, get_or}
 use Rattle.or_sched.specs.declared.head.HeadPlace.TheVariants.{Text}
 use Rattle.or_sched.specs.HeadPlaces.{HeadStepKeeps, literal_bytes}
 use Rattle.or_sched.proofs.HeadSteps.{text_moves}

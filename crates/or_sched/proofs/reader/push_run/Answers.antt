@@ -1,4 +1,4 @@
-use Rattle.std.proofs.Common.{◌≡◌, ◌∙◌, ap, arith, ◌++◌, ◌∷◌, [], ◌+◌, ◌-◌, ◌≤◌, append_assoc}
+use Rattle.std.proofs.Common.{◌∙◌, ap, arith, ◌++◌, ◌∷◌, [], ◌-◌, append_assoc}
 use Rattle.std.specs.Prelude.{replicate}
 use Rattle.or_sched.proofs.Pushes.{replicate_more, replicate_front}
 use Rattle.or_sched.proofs.reader.push_run.Goals as goal

@@ -1,4 +1,4 @@
-use Rattle.std.proofs.Common.{arith, ◌≡◌, ◌≢◌, ◌≤◌, ◌+◌, ◌-◌, ◌∷◌, [], sym, subst, Option, Some, None, ℕ, inr}
+use Rattle.std.proofs.Common.{arith, ◌≡◌, ◌≤◌, ◌-◌, ◌∷◌, [], sym, subst, Some, inr}
 use Rattle.or_sched.specs.Places.{StepKeeps, IsNumberBelow}
 use Rattle.or_sched.specs.declared.places.Place.TheVariants.{Console}
 use Rattle.or_sched.proofs.StepLemmas.{console_no_digit, console_no_end, console_none, console_end}

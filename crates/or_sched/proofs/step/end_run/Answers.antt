@@ -1,10 +1,9 @@
-use Rattle.std.proofs.Common.{arith, ◌≡◌, ◌≢◌, ◌≤◌, ◌+◌, ◌-◌, ◌∷◌, sym, subst, max, ℕ, zero, suc, List, rules, ap}
-use Rattle.or_sched.specs.Places.{StepIs, OpenIs, OpensTo}
-use Rattle.or_sched.specs.BlockRests.{Behind, Later}
+use Rattle.std.proofs.Common.{arith, ◌≡◌, ◌≢◌, ◌+◌, ◌-◌, ◌∷◌, sym, subst, ℕ, zero, suc, List}
+use Rattle.or_sched.specs.BlockRests.{Behind}
 use Rattle.or_sched.specs.RunRests.{AtRun, AtLine, AtEnd, InRun, Opens}
 use Rattle.or_sched.specs.declared.places.Place.TheVariants.{Run}
 use Rattle.or_sched.proofs.Steps.{at_full, at_letter, letter_back, feed_full, feed_short, full_back, short_back}
-use Rattle.or_sched.proofs.StepLemmas.{end_dooms, end_moves, run_leads, Ended}
+use Rattle.or_sched.proofs.StepLemmas.{end_dooms, end_moves, run_leads}
 use Rattle.or_sched.proofs.step.end_run.Goals as goal
 
 -- behind a full line, as a fact of the room

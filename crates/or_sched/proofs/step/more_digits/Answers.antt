@@ -1,4 +1,4 @@
-use Rattle.std.proofs.Common.{◌≡◌, ◌≢◌, ◌∙◌, ◌^◌, ◌<◌, ◌+◌, ◌*◌, ◌-◌, ◌≤◌, ap, subst, arith, ℕ, rules, Option, Some, None}
+use Rattle.std.proofs.Common.{◌≡◌, ◌≢◌, ◌∙◌, ◌+◌, ◌*◌, ◌-◌, ◌≤◌, ap, subst, arith, Some}
 use Rattle.or_sched.specs.Places.{IsNumberBelow}
 use Rattle.or_sched.proofs.Fields.{digit_zero, digit_within, longer_within, value_of}
 use Rattle.or_sched.proofs.step.more_digits.Goals as goal

@@ -1,4 +1,4 @@
-use Rattle.std.proofs.Common.{arith, ◌≡◌, ◌≤◌, ◌+◌, ◌-◌, sym, subst}
+use Rattle.std.proofs.Common.{arith, ◌≡◌, ◌≤◌, ◌+◌, ◌-◌, subst}
 use Rattle.or_sched.specs.Places.{StepIs}
 use Rattle.or_sched.specs.declared.places.Place.TheVariants.{Run}
 use Rattle.or_sched.proofs.StepLemmas.{lone_dooms}

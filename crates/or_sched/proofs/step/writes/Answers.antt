@@ -1,4 +1,4 @@
-use Rattle.std.proofs.Common.{arith, ◌≡◌, ◌≢◌, ◌≤◌, ◌+◌, ◌-◌, [], sym, subst, Option, Some, None, ℕ}
+use Rattle.std.proofs.Common.{arith, ◌≡◌, ◌≤◌, ◌-◌, [], sym, subst, Some, None}
 use Rattle.or_sched.specs.Places.{StepKeeps, IsNumberBelow}
 use Rattle.or_sched.specs.declared.places.Place.TheVariants.{Writes, Console}
 use Rattle.or_sched.proofs.StepLemmas.{writes_no_digit, writes_no_end, writes_none, writes_end}

@@ -1,4 +1,4 @@
-use Rattle.std.proofs.Common.{rules, ◌≡◌, ◌∙◌, ◌++◌, [], ◌∷◌, sym, ap, cond, Option, Some, None, ℕ, List, length, map, bytes_eq, arith}
+use Rattle.std.proofs.Common.{rules, ◌≡◌, ◌∙◌, ◌++◌, [], ◌∷◌, sym, ap, cond, Option, Some, None, ℕ, length, map, bytes_eq}
 use Rattle.std.proofs.lemmas.List.{map-append, length-map}
 use Rattle.or_asm_read.specs.Labels.{number_in, first_number_of, or_else}
 use Rattle.or_asm_read.proofs.LabelNumbers.{pair_of, number_append}

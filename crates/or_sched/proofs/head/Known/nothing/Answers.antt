@@ -1,4 +1,4 @@
-use Rattle.std.proofs.Common.{refl, lit<, ◌<◌, ◌≡◌, ℕ}
+use Rattle.std.proofs.Common.{lit<, ◌<◌, ℕ}
 use Rattle.std.specs.Prelude.{replicate}
 use Rattle.std.proofs.lemmas.List.Elements.{All-replicate}
 use Rattle.std.proofs.lemmas.List.{length-replicate}

@@ -1,4 +1,4 @@
-use Rattle.std.proofs.Common.{◌≡◌, arith, ap, length, length-append, ◌+◌}
+use Rattle.std.proofs.Common.{arith, length-append}
 use Rattle.std.proofs.lemmas.Grind.{common_steps}
 use Rattle.or_sched.proofs.ReaderEnds.{read_all}
 use Rattle.or_sched.proofs.reader.Reader.feed.Goals as goal

@@ -1,4 +1,4 @@
-use Rattle.std.proofs.Common.{◌≡◌, sym, subst}
+use Rattle.std.proofs.Common.{sym, subst}
 use Rattle.or_sched.specs.Reading.{StateRead}
 use Rattle.or_sched.proofs.ReaderEnds.{head_short_of, body_short_of, body_whole}
 use Rattle.or_sched.proofs.reader.Reader.finish.Goals as goal

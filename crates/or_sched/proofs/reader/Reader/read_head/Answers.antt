@@ -1,4 +1,4 @@
-use Rattle.std.proofs.Common.{◌≡◌, ◌∙◌, ◌++◌, ◌∷◌, [], sym, subst, ap, Some, ◌+◌}
+use Rattle.std.proofs.Common.{◌≡◌, ◌++◌, ◌∷◌, [], sym, subst, Some, ◌+◌}
 use Rattle.or_sched.specs.declared.recording.RecFault.TheVariants.{BadHead}
 use Rattle.or_sched.specs.declared.state.State.TheVariants.{Failed}
 use Rattle.or_sched.specs.Reading.{StateRead, HeadingRead, BodyRead, head_of, limits_of, first_of}
