@@ -1,6 +1,9 @@
 -- How a run on files that were loaded ends.
 use Rattle.std.specs.Prelude.{◌≡◌, ℕ, List, [], ◌∷◌, Some, None}
 use Rattle.or_words.specs.declared.Config.{Config}
+use Rattle.or_elf.specs.Fault.{elf_fault}
+use Rattle.or_replay.specs.declared.opening.OpenFault.{OpenFault}
+use Rattle.or_replay.specs.declared.opening.OpenFault.TheVariants.{Elf, NoMemory}
 use Rattle.or_host.specs.HostState.{HostState}
 use Rattle.or_command_line.specs.Command.{Names}
 use Rattle.or_command.specs.Writes.{File, AllWritten, WriteStopped}
@@ -30,3 +33,8 @@ FinishEnds names config files (refused fault) old new = (run_check names config 
 FinishEnds names config files no_memory old new = new ≡ old
 FinishEnds names config files (unread name) old new = ⊥
 FinishEnds names config files (too_long name limit) old new = ⊥
+
+-- why a run makes no texts: the image has this fault, or memory ran out
+abbrev pub RunFails : List ℕ → ℕ → OpenFault → Type 0
+RunFails image ram (Elf fault) = elf_fault image ram ≡ Some fault
+RunFails image ram NoMemory = Unit {0}

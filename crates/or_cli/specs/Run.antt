@@ -28,25 +28,8 @@ run_check names config files = image_check names.image (elf_fault (image_in file
 unfoldable pub head_of : Config → List ℕ → List ℕ → Head
 head_of config image input = record { config = config; image = sha256 image; input = sha256 input }
 
--- a schedule that leads from the start of this image and input to a board on which every core has stopped, and what is
--- told of it: the recording, the report and the console
-pub record IsRun (config : Config) (image input : List ℕ) (recording report console : List ℕ) : Type 0 where
-  pub schedule : List ℕ
-  pub last : Board
-  pub replayed : replay (start config image input) schedule ≡ Some last
-  pub stopped : all_stopped last.cores ≡ true
-  pub recorded : recording ≡ rec_text2 (head_of config image input) schedule (marks (start config image input) schedule)
-  pub reported : report ≡ report_text last (length schedule)
-  pub shown : console ≡ last.world.uart.console
-
--- the files and the console that a run of these settings on these files writes
-pub record RunWrites (names : Names) (config : Config) (files : List (List ℕ)) (outs : List File) (console : List ℕ) : Type 0 where
-  pub recording : List ℕ
-  pub report : List ℕ
-  pub is_run : IsRun config (image_in files) (input_in files) recording report console
-  pub outputs : outs ≡ record { name = names.schedule; text = recording } ∷ record { name = names.report; text = report } ∷ []
-
--- the same of a run whose start and head are given
+-- a schedule that leads from a start to a board on which every core has stopped, and what is told of it: the recording
+-- behind this head, the report and the console
 pub record IsRunFrom (first : Board) (head : Head) (recording report console : List ℕ) : Type 0 where
   pub schedule : List ℕ
   pub last : Board
@@ -55,3 +38,14 @@ pub record IsRunFrom (first : Board) (head : Head) (recording report console : L
   pub recorded : recording ≡ rec_text2 head schedule (marks first schedule)
   pub reported : report ≡ report_text last (length schedule)
   pub shown : console ≡ last.world.uart.console
+
+-- the same of the run of an image with an input
+abbrev pub IsRun : Config → List ℕ → List ℕ → List ℕ → List ℕ → List ℕ → Type 0
+IsRun config image input recording report console = IsRunFrom (start config image input) (head_of config image input) recording report console
+
+-- the files and the console that a run of these settings on these files writes
+pub record RunWrites (names : Names) (config : Config) (files : List (List ℕ)) (outs : List File) (console : List ℕ) : Type 0 where
+  pub recording : List ℕ
+  pub report : List ℕ
+  pub is_run : IsRun config (image_in files) (input_in files) recording report console
+  pub outputs : outs ≡ record { name = names.schedule; text = recording } ∷ record { name = names.report; text = report } ∷ []

@@ -4,7 +4,7 @@ use Rattle.or_host.specs.HostState.{HostState}
 use Rattle.or_host.specs.Counts.{Rose}
 use Rattle.or_words.specs.declared.Config.{Config}
 use Rattle.or_command_line.specs.Command.{Names, Shown}
-use Rattle.or_command_line.specs.Command.Shown.{run, replay}
+use Rattle.or_command_line.specs.Command.Shown.{run}
 use Rattle.or_command.specs.Ends.{CommandEnd, status_of}
 use Rattle.or_command.specs.Lines.{usage_line}
 use Rattle.or_command.specs.Said.{SaidLine}

@@ -1,12 +1,10 @@
 //! The commands of `or1k`, over whatever outside they are given.
 #![tactic(auto)]
 
+mod commands;
 mod loaded;
 mod run;
-mod top;
 
 pub use or_host::{Blame, Deed, Failed, FileHost, Host, LoadFail, MemHost, SureHost};
-pub use top::top;
+pub use commands::top;
 
-#[cfg(test)]
-mod tests;

@@ -12,8 +12,7 @@ ghost use Rattle.or_command.specs.Outcomes.{CommandOutcome, LeavesAll};
 ghost use Rattle.or_command.specs.Loads.{bytes_of};
 ghost use Rattle.or_cli.specs.Loaded.{image_in as image_of};
 ghost use Rattle.or_cli.specs.Run.{run_loads, run_check, head_of, IsRun, IsRunFrom, RunWrites};
-ghost use Rattle.or_cli.specs.Finish.{WriteEnds, FinishEnds};
-ghost use Rattle.or_replay.specs.Opening.{FailsToOpen};
+ghost use Rattle.or_cli.specs.Finish.{WriteEnds, FinishEnds, RunFails};
 
 use crate::loaded::{image_in, input_in, load_image};
 use or_command::{LoadStop, Outcome, Output, Refusal, write_outputs};
@@ -75,6 +74,7 @@ fn texts(
 }
 
 // Runs the image with the input, and makes the texts.
+#[tactic(auto, unfolding(crate::specs::Run::head_of))]
 fn make(
     alloc: Global,
     config: &Config,
@@ -85,15 +85,13 @@ fn make(
     requires limit { length image.now ≤ 67108864 }
     ensures run { MatchResult result
         (λ texts. (elf_fault image.now (ram_bytes config.now) ≡ None) × IsRun config.now image.now input.now texts.recording.items texts.report.items texts.console.items)
-        (λ fault. FailsToOpen image.now (ram_bytes config.now) fault) }
+        (λ fault. RunFails image.now (ram_bytes config.now) fault) }
 {
-    let bytes = match Vec::from_slice(alloc, input) {
-        Ok(bytes) => bytes,
-        Err(_) => return Err(OpenFault::NoMemory),
+    let Ok(bytes) = Vec::from_slice(alloc, input) else {
+        return Err(OpenFault::NoMemory);
     };
-    let head = head(config, image, input);
     match run_rounds(alloc, config, image, bytes) {
-        Ok(finished) => match texts(alloc, &head, finished) {
+        Ok(finished) => match texts(alloc, &head(config, image, input), finished) {
             Ok(texts) => Ok(texts),
             Err(_) => Err(OpenFault::NoMemory),
         },

@@ -8,19 +8,19 @@ use or_host::{Failed, Host};
 
 /// A file that a command writes: its name, and the text that it is to hold.
 #[derive(Clone, Copy)]
-pub struct Output<'a> {
-    pub name: &'a str,
-    pub text: &'a [u8],
+pub struct Output<'n, 't> {
+    pub name: &'n str,
+    pub text: &'t [u8],
 }
 
 /// Writes files in order, and then the console to standard output where it is not empty.
 ///
 /// Errors: the name whose write failed, `-` for standard output. The files before it are whole.
-pub fn write_outputs<'a, H: Host>(
+pub fn write_outputs<'n, H: Host>(
     host: &mut H,
-    files: &[Output<'a>],
+    files: &[Output<'n, '_>],
     console: &[u8],
-) -> Result<(), &'a str>
+) -> Result<(), &'n str>
     requires { AreFiles (files_of files.now) }
     ensures outputs { MatchResult result
         (λ _. AllWritten (files_of files.now) console.now (H.state host.old) (H.state host.new))
@@ -43,7 +43,7 @@ pub fn write_outputs<'a, H: Host>(
 /// Writes files in order, each by a create and an append.
 ///
 /// Errors: the name at which a write failed. The files before it are whole.
-pub fn write_files<'a, H: Host>(host: &mut H, files: &[Output<'a>]) -> Result<(), &'a str>
+pub fn write_files<'n, H: Host>(host: &mut H, files: &[Output<'n, '_>]) -> Result<(), &'n str>
     requires { AreFiles (files_of files.now) }
     ensures files { MatchResult result
         (λ _. FilesWritten (files_of files.now) (H.state host.old) (H.state host.new))

@@ -4,13 +4,12 @@ use Rattle.std.specs.Str.{bytes_eq}
 use Rattle.or_words.specs.declared.Config.{Config}
 use Rattle.or_words.specs.Settings.{Fits}
 use Rattle.or_command_line.specs.declared.Run.{Run}
-use Rattle.or_command_line.specs.declared.Replay.{Replay}
 use Rattle.or_command_line.specs.declared.Command.{Command}
-use Rattle.or_command_line.specs.declared.Command.TheVariants.{Run as IsRun, Replay as IsReplay}
+use Rattle.or_command_line.specs.declared.Command.TheVariants.{Run as IsRun}
 use Rattle.or_command_line.specs.Words.{is_name, is_input, differ, IsFileName}
 use Rattle.or_command_line.specs.Settings.{config_of}
 
--- the files of a run and of a replay, with `-` for no input
+-- the files of a run, with `-` for no input
 pub record Names : Type 0 where
   pub image : List ℕ
   pub input : List ℕ
@@ -20,7 +19,6 @@ pub record Names : Type 0 where
 -- a command as contracts see it
 pub data Shown : Type 0 where
   run : Names → Config → Shown
-  replay : Names → Shown
 
 -- all words are names, and each one that a run writes differs from each other one
 abbrev pub are_run_names : Names → Bool
@@ -28,12 +26,6 @@ are_run_names names =
     (is_name names.image && (is_input names.input && (is_name names.schedule && is_name names.report)))
     && ((differ names.schedule names.image && differ names.schedule names.input)
     && ((differ names.report names.image && differ names.report names.input) && differ names.report names.schedule))
-
--- a replay writes its report alone
-abbrev pub are_replay_names : Names → Bool
-are_replay_names names =
-    (is_name names.image && (is_input names.input && (is_name names.schedule && is_name names.report)))
-    && ((differ names.report names.image && differ names.report names.input) && differ names.report names.schedule)
 
 abbrev pub run_with : Names → Option Config → Option (Names × Config)
 run_with names None = None
@@ -47,38 +39,23 @@ abbrev pub run_of : List (List ℕ) → Option (Names × Config)
 run_of (image ∷ input ∷ schedule ∷ report ∷ options) = run_where (record { image = image; input = input; schedule = schedule; report = report }) options
 run_of _ = None
 
--- `IMAGE INPUT SCHED REPORT`
-abbrev pub replay_of : List (List ℕ) → Option Names
-replay_of (image ∷ input ∷ schedule ∷ report ∷ []) =
-    let names : Names = record { image = image; input = input; schedule = schedule; report = report } in if are_replay_names names then Some names else None
-replay_of _ = None
-
 abbrev pub as_run : Option (Names × Config) → Option Shown
 as_run None = None
 as_run (Some found) = Some (run found.0 found.1)
-
-abbrev pub as_replay : Option Names → Option Shown
-as_replay None = None
-as_replay (Some names) = Some (replay names)
 
 -- the command that the words are, or none
 unfoldable pub command_of : List (List ℕ) → Option Shown
 command_of [] = None
 command_of (verb ∷ words) =
     if bytes_eq verb (codes "run") then as_run (run_of words) else
-    if bytes_eq verb (codes "replay") then as_replay (replay_of words) else
     None
 
 -- what the code's commands show
 abbrev pub run_names : Run → Names
 run_names words = record { image = words.image.now; input = words.input.now; schedule = words.schedule.now; report = words.report.now }
 
-abbrev pub replay_names : Replay → Names
-replay_names words = record { image = words.image.now; input = words.input.now; schedule = words.schedule.now; report = words.report.now }
-
 abbrev pub shown_command : Command → Shown
 shown_command (IsRun words) = run (run_names words) words.config
-shown_command (IsReplay words) = replay (replay_names words)
 
 -- what the names of a command are to a host: those that are written differ from each other name
 pub record AreRead (names : Names) : Type 0 where
@@ -97,4 +74,3 @@ pub record AreWritten (names : Names) : Type 0 where
 
 abbrev pub AreNamesOf : Shown → Type 0
 AreNamesOf (run names config) = AreWritten names × Fits config
-AreNamesOf (replay names) = AreRead names

@@ -1,11 +1,11 @@
 //! The grammar of the command line.
 #![tactic(auto)]
 
-ghost use Rattle.std.specs.Prelude.{◌≡◌, true, false, None, Some, MatchOption, IfSome, IsTrue};
+ghost use Rattle.std.specs.Prelude.{◌≡◌, None, Some, MatchOption, IfSome, IsTrue};
 ghost use Rattle.or_words.specs.Settings.{Fits};
 ghost use Rattle.or_command_line.specs.Words.{texts, is_name, is_input};
 ghost use Rattle.or_command_line.specs.Settings.{option_of, latch_of, config_of, config_fits};
-ghost use Rattle.or_command_line.specs.Command.{Names, command_of, run_of, run_where, replay_of, are_run_names, are_replay_names, run_names, replay_names, shown_command, AreNamesOf, AreWritten, AreRead};
+ghost use Rattle.or_command_line.specs.Command.{Names, command_of, run_of, run_where, are_run_names, run_names, shown_command, AreNamesOf, AreWritten};
 
 use or_text::numerals::read_decimal;
 use or_words::Config;
@@ -21,21 +21,10 @@ pub struct Run<'a> {
     pub config: Config,
 }
 
-/// `replay IMAGE INPUT SCHED REPORT`.
-#[derive(Clone, Copy)]
-pub struct Replay<'a> {
-    pub image: &'a str,
-    /// The file of the console's input; `-` for none.
-    pub input: &'a str,
-    pub schedule: &'a str,
-    pub report: &'a str,
-}
-
 /// A command with its words.
 #[derive(Clone, Copy)]
 pub enum Command<'a> {
     Run(Run<'a>),
-    Replay(Replay<'a>),
 }
 
 /// The command of these words; `None` where they are none. The names of a command are names of files, the written ones
@@ -51,12 +40,6 @@ pub fn parse(words: &[String]) -> Option<Command<'_>>
     if verb.as_str() == "run" {
         return match parse_run(rest) {
             Some(run) => Some(Command::Run(run)),
-            None => None,
-        };
-    }
-    if verb.as_str() == "replay" {
-        return match parse_replay(rest) {
-            Some(replay) => Some(Command::Replay(replay)),
             None => None,
         };
     }
@@ -115,44 +98,6 @@ fn named_run<'a>(
     }
 }
 
-// `IMAGE INPUT SCHED REPORT`.
-fn parse_replay(words: &[String]) -> Option<Replay<'_>>
-    ensures replay { MatchOption result (replay_of (texts words.now) ≡ None) (λ replay. replay_of (texts words.now) ≡ Some (replay_names replay)) }
-    ensures names { IfSome result (λ replay. AreRead (replay_names replay)) }
-{
-    let [image, input, schedule, report] = words else {
-        return None;
-    };
-    named_replay(
-        image.as_str(),
-        input.as_str(),
-        schedule.as_str(),
-        report.as_str(),
-    )
-}
-
-fn named_replay<'a>(
-    image: &'a str,
-    input: &'a str,
-    schedule: &'a str,
-    report: &'a str,
-) -> Option<Replay<'a>>
-    ensures replay { let names : Names = record { image = image.now; input = input.now; schedule = schedule.now; report = report.now } in
-        MatchOption result (are_replay_names names ≡ false) (λ replay. (are_replay_names names ≡ true) × (replay_names replay ≡ names)) }
-    ensures names { IfSome result (λ replay. AreRead (replay_names replay)) }
-{
-    if are_replay_names(image, input, schedule, report) {
-        Some(Replay {
-            image,
-            input,
-            schedule,
-            report,
-        })
-    } else {
-        None
-    }
-}
-
 // All words are names, and each one that a run writes differs from each other one.
 fn are_run_names(image: &str, input: &str, schedule: &str, report: &str) -> bool
     ensures test { result ≡ are_run_names (record { image = image.now; input = input.now; schedule = schedule.now; report = report.now }) }
@@ -161,15 +106,6 @@ fn are_run_names(image: &str, input: &str, schedule: &str, report: &str) -> bool
     (is_name(image) && (is_input(input) && (is_name(schedule) && is_name(report))))
         && ((schedule != image && schedule != input)
             && ((report != image && report != input) && report != schedule))
-}
-
-// All words are names, and that of the report differs from each other one.
-fn are_replay_names(image: &str, input: &str, schedule: &str, report: &str) -> bool
-    ensures test { result ≡ are_replay_names (record { image = image.now; input = input.now; schedule = schedule.now; report = report.now }) }
-    ensures names { IsTrue result → AreRead (record { image = image.now; input = input.now; schedule = schedule.now; report = report.now }) }
-{
-    (is_name(image) && (is_input(input) && (is_name(schedule) && is_name(report))))
-        && ((report != image && report != input) && report != schedule)
 }
 
 /// A name: not empty, not beginning with `-`, at most 4095 bytes.

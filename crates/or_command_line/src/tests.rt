@@ -73,9 +73,7 @@ fn other_words_are_no_command(rt: HostRuntime) -> Result<(), Fail> {
         "run -a b c d",
         "run a --b c d",
         "run a b - d",
-        "replay a b c",
-        "replay a b c a",
-        "replay a b c d --cores 1",
+        "replay a b c d",
         "Run a b c d",
         "--help",
     ];
@@ -83,8 +81,6 @@ fn other_words_are_no_command(rt: HostRuntime) -> Result<(), Fail> {
         let words = words(rt.alloc(), line)?;
         assert!(rt; parse(&words).is_none(), "{line}");
     }
-    let words = words(rt.alloc(), "replay a a a d")?;
-    assert!(rt; matches!(parse(&words), Some(Command::Replay(_))));
     assert!(rt; parse(&[]).is_none());
     Ok(())
 }

@@ -1,0 +1,19 @@
+use Rattle.std.proofs.Common.{ap, subst, ℕ, List}
+use Rattle.std.specs.Prelude.{Vec}
+use Rattle.std.specs.declared.alloc.Global.{Global}
+use Rattle.or_command_line.specs.Command.{run_names}
+use Rattle.or_command.specs.Loads.{bytes_of}
+use Rattle.or_command.specs.Ends.{end_of}
+use Rattle.or_cli.specs.Finish.{FinishEnds}
+use Rattle.or_cli.proofs.Runs.{run_goes_on}
+use Rattle.or_cli.proofs.run.run.Goals as goal
+
+pub returns-in-Ok-clause-outcome : goal.returns-in-Ok-clause-outcome
+returns-in-Ok-clause-outcome g c =
+    let names = run_names c.args.words.now in
+    let config = c.args.words.now.config in
+    run_goes_on names config (bytes_of c.new-files.result.items) (bytes_of c.load_image.new.into.items) (end_of c.finish.result)
+    (g.H.Host.state c.args.host.now) (g.H.Host.state c.load_image.new.host) (g.H.Host.state c.finish.new.host)
+    c.requires.names (ap bytes_of c.new-files.ensures.items) c.in-Ok.ensures.files
+    (subst (λ (files : List (Vec ℕ Global)). FinishEnds names config (bytes_of files) (end_of c.finish.result) (g.H.Host.state c.load_image.new.host) (g.H.Host.state c.finish.new.host))
+      c.as_slice.ensures.value c.finish.ensures.outcome)
