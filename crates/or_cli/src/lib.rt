@@ -5,6 +5,8 @@ mod commands;
 mod loaded;
 mod run;
 
-pub use or_host::{Blame, Deed, Failed, FileHost, Host, LoadFail, MemHost, SureHost};
 pub use commands::top;
+pub use or_host::{Blame, Deed, Failed, FileHost, Host, LoadFail, MemHost, SureHost};
 
+#[cfg(test)]
+mod tests;

@@ -45,11 +45,7 @@ fn head(config: &Config, image: &[u8], input: &[u8]) -> Head
 
 // The texts of a run that has come to its end.
 #[tactic(auto, using(crate::proofs::Runs::runs))]
-fn texts(
-    alloc: Global,
-    head: &Head,
-    finished: Finished,
-) -> Result<RunTexts, NoMemory>
+fn texts(alloc: Global, head: &Head, finished: Finished) -> Result<RunTexts, NoMemory>
     requires fits { Fits head.now.config }
     requires schedule { IsSchedule head.now.config finished.schedule.items }
     requires marks { AreMarks finished.schedule.items finished.marks.items }
@@ -65,7 +61,13 @@ fn texts(
     or_sched::write(head, &schedule, &marks, &mut recording)?;
     let (cores, bus) = board.into_parts();
     let mut text = Vec::new(alloc);
-    let console = report(alloc, cores.as_slice(), bus, schedule.len() as u64, &mut text)?;
+    let console = report(
+        alloc,
+        cores.as_slice(),
+        bus,
+        schedule.len() as u64,
+        &mut text,
+    )?;
     Ok(RunTexts {
         recording,
         report: text,
@@ -75,12 +77,7 @@ fn texts(
 
 // Runs the image with the input, and makes the texts.
 #[tactic(auto, unfolding(crate::specs::Run::head_of))]
-fn make(
-    alloc: Global,
-    config: &Config,
-    image: &[u8],
-    input: &[u8],
-) -> Result<RunTexts, OpenFault>
+fn make(alloc: Global, config: &Config, image: &[u8], input: &[u8]) -> Result<RunTexts, OpenFault>
     requires fits { Fits config.now }
     requires limit { length image.now ≤ 67108864 }
     ensures run { MatchResult result

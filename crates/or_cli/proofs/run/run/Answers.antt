@@ -16,4 +16,4 @@ returns-in-Ok-clause-outcome g c =
     (g.H.Host.state c.args.host.now) (g.H.Host.state c.load_image.new.host) (g.H.Host.state c.finish.new.host)
     c.requires.names (ap bytes_of c.new-files.ensures.items) c.in-Ok.ensures.files
     (subst (λ (files : List (Vec ℕ Global)). FinishEnds names config (bytes_of files) (end_of c.finish.result) (g.H.Host.state c.load_image.new.host) (g.H.Host.state c.finish.new.host))
-      c.as_slice.ensures.value c.finish.ensures.outcome)
+    c.as_slice.ensures.value c.finish.ensures.outcome)
