@@ -9,7 +9,7 @@ ghost use Rattle.or_host.specs.Blamed.{blamed};
 ghost use Rattle.or_host.specs.Told.{TellsSame};
 
 use crate::blame::note;
-use crate::store::{empty_file, grow, grow_file, load_bytes, set_file};
+use crate::store::{emit, empty_file, grow_file, load_bytes, set_file};
 use crate::{Blame, Deed, Failed, Host, LoadFail};
 use or_words::NoMemory;
 use std::alloc::Global;
@@ -164,7 +164,7 @@ impl Host for MemHost {
         ensures counted { CountsCall self.old self.new }
     {
         let listed = next_is_listed(&self.failing, &mut self.calls);
-        if grow(&mut self.written, listed, bytes) {
+        if emit(&mut self.written, listed, bytes) {
             return Ok(());
         }
         note(&mut self.faults, &mut self.blame, Deed::Write, "-");
@@ -180,7 +180,7 @@ impl Host for MemHost {
         ensures counted { CountsCall self.old self.new }
     {
         let listed = next_is_listed(&self.failing, &mut self.calls);
-        if grow(&mut self.said, listed, bytes) {
+        if emit(&mut self.said, listed, bytes) {
             return Ok(());
         }
         self.say_faults = self.say_faults.saturating_add(1);

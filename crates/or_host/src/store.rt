@@ -1,7 +1,7 @@
 // Files and texts in memory: how they are read, made and grown, and what a call that is to fail leaves of them.
-ghost use Rattle.std.specs.Prelude.{◌≡◌, ◌≢◌, [], List, ℕ, None, Some, IsTrue, IsFalse, vec_capacity};
+ghost use Rattle.std.specs.Prelude.{◌≡◌, ◌≢◌, ◌++◌, [], List, ℕ, None, Some, IsTrue, IsFalse, vec_capacity};
 ghost use Rattle.or_host.specs.Store.{content_of, room_of};
-ghost use Rattle.or_host.specs.Bytes.{AddsWhereRoom};
+ghost use Rattle.or_host.specs.Bytes.{AddsPrefix, AddsWhereRoom};
 ghost use Rattle.or_host.specs.Failing.{LoadsBytes, LoadsListed, AppendsListed, GrowsListed, failed_part};
 
 use crate::LoadFail;
@@ -100,6 +100,15 @@ pub(crate) fn grow(list: &mut Vec<u8>, listed: bool, bytes: &[u8]) -> bool
         return false;
     }
     list.extend_from_slice(bytes).is_ok()
+}
+
+// The same of what is written out or said: all bytes are added, or a prefix of them.
+pub(crate) fn emit(list: &mut Vec<u8>, listed: bool, bytes: &[u8]) -> bool
+    ensures exact { GrowsListed listed (vec_capacity list.old) bytes.now result list.old.items list.new.items }
+    ensures all { IsTrue result → list.new.items ≡ list.old.items ++ bytes.now }
+    ensures prefix { IsFalse result → AddsPrefix bytes.now list.old.items list.new.items }
+{
+    grow(list, listed, bytes)
 }
 
 // Adds bytes where memory is found for them.
