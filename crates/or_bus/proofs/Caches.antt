@@ -1,5 +1,5 @@
 -- What the changes of a data cache do to the lines that it holds, and why its lines stay those of RAM.
-use Rattle.std.proofs.Common.{◌≡◌, ℕ, ◌+◌, ◌-◌, ◌%◌, ◌<◌, ◌≤◌, Bool, true, false, List, Some, None, length, ◌≢◌, ◌⊎◌, inl, inr, subst, refl, ap, sym, ◌∙◌, arith}
+use Rattle.std.proofs.Common.{◌≡◌, ℕ, ◌+◌, ◌%◌, ◌<◌, ◌≤◌, Bool, true, false, List, Some, None, length, ◌≢◌, ◌⊎◌, inl, inr, subst, refl, ap, sym, ◌∙◌, arith}
 use Rattle.std.specs.Prelude.{Option, slice_index_or, slice_set, slice_range, ◌==◌, if◌then◌else◌}
 use Rattle.std.proofs.lemmas.Bool.Decides.{nat_tests}
 use Rattle.std.proofs.lemmas.Bool.{false≢true}

@@ -1,6 +1,6 @@
 -- What the world answers to an access, by what answers it.
-use Rattle.std.proofs.Common.{◌≡◌, ℕ, ◌+◌, ◌%◌, Bool, Ok, Err, Some, None, length, subst, ap, sym, ◌∙◌}
-use Rattle.std.specs.Prelude.{Option, Result, if◌then◌else◌}
+use Rattle.std.proofs.Common.{◌≡◌, ℕ, ◌+◌, ◌%◌, Bool, Ok, Err, length, subst, ap, sym, ◌∙◌}
+use Rattle.std.specs.Prelude.{if◌then◌else◌}
 use Rattle.or_words.specs.declared.Width.{Width}
 use Rattle.or_parts.specs.Memory.{value_at}
 use Rattle.or_parts.specs.Uart.{uart_value, uart_after_read, uart_written, uart_line}

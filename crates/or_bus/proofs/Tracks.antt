@@ -1,17 +1,16 @@
 -- What each access does to the lines that Held names, and to Hits and Misses.
-use Rattle.std.proofs.Common.{◌≡◌, ℕ, ◌+◌, ◌-◌, ◌%◌, ◌<◌, ◌≤◌, min, Bool, true, false, List, [], ◌∷◌, Some, None, length, ◌≢◌, subst, refl, ap, sym, ◌∙◌, arith}
-use Rattle.std.specs.Prelude.{Option, is_some, slice_index_or, slice_set, slice_range, ◌==◌, if◌then◌else◌, ◌&&◌, not}
+use Rattle.std.proofs.Common.{◌≡◌, ℕ, ◌+◌, ◌%◌, min, Bool, true, false, List, ◌∷◌, Some, None, length, ◌≢◌, refl, ap, sym, ◌∙◌, arith}
+use Rattle.std.specs.Prelude.{Option, is_some, slice_index_or, ◌==◌, if◌then◌else◌}
 use Rattle.std.proofs.lemmas.Bool.Decides.{nat_tests}
-use Rattle.std.proofs.lemmas.Grind.{common_steps}
 use Rattle.or_words.specs.declared.Width.{Width}
-use Rattle.or_words.specs.declared.Width.TheVariants.{Byte, Half, Word}
+use Rattle.or_words.specs.declared.Width.TheVariants.{Word}
 use Rattle.or_parts.specs.declared.Line.{Line}
 use Rattle.or_parts.specs.Memory.{value_at}
 use Rattle.or_parts.specs.Lines.{index_of, line_of, line_at_index, word_of_line, held_word, line_filled, line_dropped}
 use Rattle.or_model.specs.declared.Counts.{Counts}
-use Rattle.or_model.specs.World.{World, Access, Kind}
+use Rattle.or_model.specs.World.{Access}
 use Rattle.or_model.specs.World.Kind.{Loads, Stores, Drops}
-use Rattle.or_model.specs.Caches.{held, brings, ends, hits, misses, is_cached_load}
+use Rattle.or_model.specs.Caches.{held, hits, misses, is_cached_load}
 use Rattle.or_mem.specs.Memory.{last_count}
 use Rattle.or_mem.specs.Caches.{line_updated}
 use Rattle.or_bus.specs.State.{with_hit, with_miss}

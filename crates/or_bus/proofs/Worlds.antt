@@ -1,6 +1,6 @@
 -- How each change of a bus follows the change of the world, and why a bus stays sound.
-use Rattle.std.proofs.Common.{◌≡◌, ℕ, ◌+◌, ◌-◌, ◌*◌, ◌/◌, ◌%◌, ◌<◌, ◌≤◌, min, Bool, true, false, eqb, List, [], ◌∷◌, ◌++◌, map, Some, None, length, ◌≢◌, subst, refl, ap, sym, ◌∙◌, arith, length-append}
-use Rattle.std.specs.Prelude.{Option, is_some, slice_index_or, slice_set, slice_range, ◌==◌, ◌&&◌, nat_lt, if◌then◌else◌, replicate, zero, suc}
+use Rattle.std.proofs.Common.{◌≡◌, ℕ, ◌+◌, ◌*◌, ◌/◌, ◌%◌, ◌<◌, ◌≤◌, Bool, true, false, eqb, List, [], ◌∷◌, map, Some, None, length, ◌≢◌, subst, refl, ap, sym, ◌∙◌, arith, length-append}
+use Rattle.std.specs.Prelude.{Option, is_some, slice_index_or, slice_set, slice_range, ◌&&◌, nat_lt, if◌then◌else◌, replicate, zero, suc}
 use Rattle.std.proofs.lemmas.Bool.Decides.{nat_tests}
 use Rattle.std.proofs.lemmas.Bool.{eqb-true, eqb-false, true≢false}
 use Rattle.std.proofs.lemmas.List.{get_or-set_other, get_or-set_same, get_or-replicate, length-replicate}
@@ -17,9 +17,8 @@ use Rattle.or_model.specs.declared.Counts.{Counts}
 use Rattle.or_model.specs.World.{World, Access, after_load, after_store, after_drop, marked, unmarked, new_world, stands}
 use Rattle.or_model.specs.World.Kind.{Loads}
 use Rattle.or_model.specs.Caches.{held}
-use Rattle.or_mem.specs.Memory.{last_count}
-use Rattle.or_mem.specs.Caches.{cache_of, line_updated, address_and_bytes}
-use Rattle.or_resv.specs.Slots.{is_for, is_reserved, after_write}
+use Rattle.or_mem.specs.Caches.{cache_of, address_and_bytes}
+use Rattle.or_resv.specs.Slots.{is_for, after_write}
 use Rattle.or_bus.specs.State.{BusState, counted_up, counts_of, no_counts, with_read, with_hit, with_miss}
 use Rattle.or_bus.specs.Lines.{is_line, holds, IsLineTold}
 use Rattle.or_bus.specs.Coherence.{IsLineOf, IsCoherent, IsSound, AreSound}

@@ -1,6 +1,5 @@
 -- The bus against the world: what it holds is what has happened.
 use Rattle.std.specs.Prelude.{◌≡◌, ℕ, ◌%◌, ◌<◌, min, length}
-use Rattle.or_parts.specs.Lines.{is_line_at, line_at_index, index_of}
 use Rattle.or_model.specs.World.{World, IsValid, stands}
 use Rattle.or_model.specs.Caches.{held, hits, misses}
 use Rattle.or_mem.specs.Memory.{last_count}

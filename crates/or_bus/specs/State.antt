@@ -1,5 +1,5 @@
 -- What contracts see of a bus.
-use Rattle.std.specs.Prelude.{ℕ, ◌+◌, min, List, Option, slice_index_or, slice_set}
+use Rattle.std.specs.Prelude.{ℕ, ◌+◌, min, List, Option, slice_index_or}
 use Rattle.or_parts.specs.declared.Line.{Line}
 use Rattle.or_parts.specs.Uart.{UartState}
 use Rattle.or_model.specs.declared.Counts.{Counts}

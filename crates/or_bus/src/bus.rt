@@ -76,9 +76,9 @@ fn one_more_miss(counts: Counts) -> Counts
 }
 
 impl Bus {
-    /// A bus for the cores of a configuration over its RAM: no line is held, no word reserved, nothing counted but the reads of RAM so far,
-    /// and the devices are at reset with the input left whole. It reserves cores × budget bytes of console, and later calls but `copy` take no memory.
-    /// It fails only where memory runs out.
+    /// A bus for the cores of a configuration over its RAM: no line is held, no word is reserved, nothing is counted
+    /// but the reads of RAM so far, and the devices are at reset with the input left whole. It reserves
+    /// cores × budget bytes of console, and no later call but `copy` takes memory. It fails only where memory runs out.
     pub fn open(alloc: Global, config: &Config, ram: Ram, input: Vec<u8>) -> Result<Bus, NoMemory>
         requires fits { Fits config.now }
         requires size { length ram.bytes ≡ ram_bytes config.now }
@@ -104,8 +104,8 @@ impl Bus {
         })
     }
 
-    /// A copy that equals this bus as it stands after the call, with the same room for console; it counts as one read of RAM.
-    /// It fails only where memory runs out, and the read may then be counted too.
+    /// A copy that equals this bus as it stands after the call, with the same room for console; it counts as one read
+    /// of RAM. It fails only where memory runs out, and the read may then be counted too.
     pub fn copy(&mut self, alloc: Global) -> Result<Bus, NoMemory>
         ensures copy { IfOk result (λ bus. bus ≡ self.new) }
         ensures counted { OnOk result (self.new ≡ with_read self.old) }
@@ -443,8 +443,8 @@ impl Bus {
         self.ram.reads()
     }
 
-    /// The last access to RAM by a load, a store, a load that reserved, or a conditional store that stored,
-    /// since the bus was opened or told to forget. None exactly where there was none.
+    /// The last access to RAM by a load, a store, a load that reserves, or a conditional store that stored, since the
+    /// bus was opened or last told to forget. None exactly where there was none.
     pub fn last(&self) -> Option<Access>
         ensures { result ≡ self.now.last }
     {

@@ -44,7 +44,9 @@ impl Bus {
         self.read_instruction(pa, cached)
     }
 
-    /// A fetch of the word at an address, a multiple of four, with its line where it is cached. Only RAM answers.
+    /// A fetch of the big-endian word at an address, a multiple of four; where it is cached, with the 32 bytes of RAM
+    /// of the line that holds the address. No data cache has a part in it. Only RAM answers: elsewhere it is a bus
+    /// error, and nothing changes.
     #[tactic(auto, unfolding(or_model::specs::Bus::fetch))]
     pub fn fetch(&mut self, pa: u32, cached: bool) -> Result<Fetched, BusError>
         requires { pa % 4 ≡ 0 }

@@ -157,7 +157,9 @@ impl Bus {
         value
     }
 
-    /// A load of a width at an aligned address; the value is not extended. RAM answers, the UART answers bytes, and the ompic answers words.
+    /// A load at an address that is aligned for its width; the value is zero-extended. RAM answers any width, through
+    /// the core's data cache or past it; the UART answers bytes and the ompic words. Where nothing answers it is a bus
+    /// error, and nothing changes.
     pub fn load(&mut self, core: u32, pa: u32, width: Width, cached: bool) -> Result<u32, BusError>
         requires core { core < self.old.cores }
         requires aligned { pa % bytes_of width ≡ 0 }
@@ -177,7 +179,8 @@ impl Bus {
         }
     }
 
-    /// A load that reserves its word (l.lwa) at an address, a multiple of four. Only RAM answers.
+    /// A load that reserves its word (l.lwa; OpenRISC 1000 Architecture Manual, section 7.3) at an address that is a
+    /// multiple of four. Only RAM answers: elsewhere it is a bus error, and nothing changes.
     #[tactic(auto, unfolding(or_model::specs::Bus::load_linked))]
     pub fn lwa(&mut self, core: u32, pa: u32, cached: bool) -> Result<u32, BusError>
         requires core { core < self.old.cores }

@@ -33,7 +33,8 @@ impl Bus {
         bits_of(self.has_core_interrupt(core), self.has_uart_interrupt())
     }
 
-    /// How often the core's cached loads found their line held, and how often not, each cut at the last value of 64 bits.
+    /// How often the core's cached loads found their line held, and how often not, each cut at the last value of 64
+    /// bits. A load that reserves counts as a load.
     pub fn counts(&self, core: u32) -> Counts
         requires { core < self.now.cores }
         ensures value { result ≡ counts_of self.now.counts core }
@@ -58,7 +59,8 @@ impl Bus {
         self.console_here()
     }
 
-    /// The address and the bytes of the line that the core's cache holds at an index below 128, None exactly where it holds none there.
+    /// The address and the bytes of the line that the core's cache holds at an index below 128, None exactly where it
+    /// holds none there.
     pub fn line(&self, core: u32, index: u32) -> Option<(u32, [u8; 32])>
         requires core { core < self.now.cores }
         requires index { index < 128 }
@@ -67,7 +69,7 @@ impl Bus {
         self.line_at(core, index)
     }
 
-    /// The big-endian word at an address, None exactly where the address is no multiple of four or not in RAM.
+    /// The big-endian word of RAM at an address, None exactly where the address is no multiple of four or not in RAM.
     /// It changes no more than the count of reads.
     #[tactic(auto, using(crate::proofs::Worlds::reads))]
     pub fn peek(&mut self, pa: u32) -> Option<u32>

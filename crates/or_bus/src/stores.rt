@@ -55,7 +55,10 @@ impl Bus {
         self.cancel(core);
     }
 
-    /// A store of the low bits of a word in a width at an aligned address. RAM answers, the UART answers bytes, and the ompic answers words.
+    /// A store of the low bits of a word at an address that is aligned for its width. RAM answers any width: all cores'
+    /// reservations of the word end, other cores lose the line, and the storing core's own line is updated where the
+    /// store is cached, and lost where it is not. The UART answers bytes, and may take one byte of the console's room;
+    /// the ompic answers words. Where nothing answers it is a bus error, and nothing changes.
     pub fn store(
         &mut self,
         core: u32,
@@ -90,8 +93,9 @@ impl Bus {
         }
     }
 
-    /// A store of a word where the core is linked and its reservation of the word stands (l.swa), at an address that is a multiple of four.
-    /// It answers whether it stored, and ends the reservation in both cases. Only RAM answers.
+    /// A store of a word where the core is linked and its reservation of the word stands (l.swa; OpenRISC 1000
+    /// Architecture Manual, section 7.3), at an address that is a multiple of four. It answers whether it stored, and
+    /// ends the core's reservation in both cases. Only RAM answers: elsewhere it is a bus error, and nothing changes.
     #[tactic(auto, unfolding(or_model::specs::Bus::store_conditional))]
     pub fn swa(
         &mut self,

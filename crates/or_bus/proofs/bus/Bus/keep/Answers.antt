@@ -1,4 +1,4 @@
-use Rattle.std.proofs.Common.{◌≡◌, ◌+◌, ◌≤◌, ap, sym, ◌∙◌, arith, length, List, ℕ}
+use Rattle.std.proofs.Common.{ap, sym, ◌∙◌, arith, length, List, ℕ}
 use Rattle.std.specs.Prelude.{slice_set}
 use Rattle.or_parts.specs.Lines.{line_bytes, line_filled}
 use Rattle.or_mem.specs.Caches.{cache_of}

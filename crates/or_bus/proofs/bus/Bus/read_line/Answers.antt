@@ -1,4 +1,4 @@
-use Rattle.std.proofs.Common.{◌≡◌, subst, ap, sym, List, ℕ}
+use Rattle.std.proofs.Common.{subst, ap, sym, List, ℕ}
 use Rattle.or_mem.specs.Memory.{RamState}
 use Rattle.or_bus.specs.Coherence.{AreSound}
 use Rattle.or_bus.proofs.bus.Bus.read_line.Goals as goal

@@ -1,4 +1,4 @@
-use Rattle.std.proofs.Common.{◌≡◌, ap, arith}
+use Rattle.std.proofs.Common.{ap, arith}
 use Rattle.or_mem.specs.Memory.{RamState}
 use Rattle.or_bus.specs.State.{BusState}
 use Rattle.or_bus.proofs.Worlds.{sound-written}
