@@ -363,27 +363,54 @@ fn append_line(alloc: Global, word: u32, pc: u32, out: &mut Vec<u8>) -> bool {
     }
 }
 
+// The texts that are printed of these words, one behind the other from 00000100 on.
+fn printed(alloc: Global, rows: &[(u32, &[u8])]) -> Option<Vec<u8>> {
+    let mut source: Vec<u8> = Vec::new(alloc);
+    let mut pc: u32 = 0x100;
+    for row in rows {
+        if !append_line(alloc, row.0, pc, &mut source) {
+            return None;
+        }
+        pc = pc.wrapping_add(4);
+    }
+    Some(source)
+}
+
+// The texts that these rows give.
+fn wanted(alloc: Global, rows: &[(u32, &[u8])]) -> Option<Vec<u8>> {
+    let mut text: Vec<u8> = Vec::new(alloc);
+    for row in rows {
+        text.extend_from_slice(row.1).ok()?;
+        text.push(b'\n').ok()?;
+    }
+    Some(text)
+}
+
+// Whether a program is one piece of these words from 00000100 on.
+fn has_words(program: &Program, rows: &[(u32, &[u8])]) -> bool {
+    match program.pieces.as_slice() {
+        [piece] => {
+            piece.place == 0x100
+                && piece.words.len() == rows.len()
+                && piece
+                    .words
+                    .iter()
+                    .zip(rows.iter())
+                    .all(|(found, row)| *found == row.0)
+        }
+        _ => false,
+    }
+}
+
 // Every instruction is printed as its row says, and the texts one behind the other assemble to the words again.
 #[test]
 fn rows(rt: HostRuntime) {
     let alloc: Global = rt.alloc();
-    let mut source: Vec<u8> = Vec::new(alloc);
-    let mut wanted: Vec<u8> = Vec::new(alloc);
-    let mut pc: u32 = 0x100;
-    for (word, text) in ROWS {
-        assert!(rt; append_line(alloc, word, pc, &mut source));
-        assert!(rt; wanted.extend_from_slice(text).is_ok() && wanted.push(b'\n').is_ok());
-        pc = pc.wrapping_add(4);
-    }
-    assert!(rt; source.as_slice() == wanted.as_slice());
+    let source = printed(alloc, &ROWS).expect(&rt, "texts");
+    let text = wanted(alloc, &ROWS).expect(&rt, "memory");
+    assert!(rt; source.as_slice() == text.as_slice());
     let program = program_of(alloc, source.as_slice()).expect(&rt, "a program");
-    assert_eq!(rt; program.pieces.len(), 1);
-    assert_eq!(rt; program.pieces[0].place, 0x100);
-    let words = program.pieces[0].words.as_slice();
-    assert_eq!(rt; words.len(), 89);
-    for (found, row) in words.iter().zip(ROWS.iter()) {
-        assert_eq!(rt; *found, row.0);
-    }
+    assert!(rt; has_words(&program, &ROWS));
 }
 
 // The text of so many pieces of one word each.
