@@ -101,11 +101,7 @@ impl Board {
         ensures many { length self.new.cores ≡ length self.old.cores }
         ensures config { self.new.config ≡ self.old.config }
     {
-        turn_running(
-            self.cores.as_mut_slice(),
-            usize::from(core),
-            &mut self.bus,
-        );
+        turn_running(self.cores.as_mut_slice(), usize::from(core), &mut self.bus);
     }
 
     // The lengths of the history of writes and of the console.

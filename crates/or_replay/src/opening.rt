@@ -12,6 +12,7 @@ ghost use Rattle.or_replay.specs.Start.{start};
 ghost use Rattle.or_replay.specs.Board.{IsBoard};
 ghost use Rattle.or_replay.specs.Opening.{FailsToOpen};
 
+use crate::board::Board;
 use arrayvec::ArrayVec;
 use or_bus::Bus;
 use or_core::Core;
@@ -19,8 +20,6 @@ use or_elf::{ElfFault, Segment};
 use or_mem::Ram;
 use or_words::{Config, NoMemory};
 use std::alloc::Global;
-
-use crate::board::Board;
 
 /// Why a board is not opened.
 #[derive(Clone, Copy, Debug, PartialEq, Eq)]

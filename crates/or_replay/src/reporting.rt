@@ -216,12 +216,7 @@ fn append_counts(
 }
 
 // The report up to RAM's digest.
-fn append_front(
-    cores: &[Core],
-    bus: &Bus,
-    turns: u64,
-    out: &mut Vec<u8>,
-) -> Result<(), AllocError>
+fn append_front(cores: &[Core], bus: &Bus, turns: u64, out: &mut Vec<u8>) -> Result<(), AllocError>
     requires { AreOfBus cores.now bus.now }
     ensures { OnOk result ((world : World) → Represents bus.now world
         → out.new.items ≡ out.old.items ++ codes "orreport 1\n" ++ counts_line (length cores.now) turns (length world.uart.console) ++ core_blocks world cores.now) }
