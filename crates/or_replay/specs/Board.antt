@@ -51,7 +51,7 @@ all_stopped (core ∷ cores) = (if is_none core.stop then false else true) && al
 abbrev pub RefusedBy : List Core → ℕ → Result (Unit {0}) Refused → Type 0
 RefusedBy cores c (Ok done) = c < length cores
 RefusedBy cores c (Err NoSuchCore) = length cores ≤ c
-RefusedBy cores c (Err CoreStopped) = (core : Core) → slice_get cores c ≡ Some core → is_none core.stop ≡ false
+RefusedBy cores c (Err CoreStopped) = (c < length cores) × ((core : Core) → slice_get cores c ≡ Some core → is_none core.stop ≡ false)
 
 -- a turn that is made lessens the steps that are left
 abbrev pub Lessens : Result (Unit {0}) Refused → List Core → List Core → Type 0

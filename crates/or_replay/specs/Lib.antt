@@ -4,3 +4,4 @@ pub mod Board
 pub mod Opening
 pub mod Report
 pub mod Rounds
+pub mod Following
