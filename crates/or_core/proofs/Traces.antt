@@ -1,6 +1,6 @@
 -- What is left of the trace of a turn.
-use Rattle.std.proofs.Common.{◌≡◌, ℕ, zero, suc, ◌+◌, ◌-◌, ◌<◌, Bool, true, false, cond, refl, ap, arith, sub-one, ◌∙◌, append_assoc, append-nil}
-use Rattle.std.specs.Prelude.{is_none, ◌&&◌, None, List, [], ◌∷◌, ◌++◌}
+use Rattle.std.proofs.Common.{◌≡◌, ℕ, zero, suc, ◌-◌, ◌<◌, true, false, cond, ap, arith, sub-one, ◌∙◌, append_assoc, append-nil}
+use Rattle.std.specs.Prelude.{is_none, None, List, [], ◌∷◌, ◌++◌}
 use Rattle.or_model.specs.Core.{Core}
 use Rattle.or_model.specs.Step.{is_private, private_step}
 use Rattle.or_model.specs.Turn.{steps_alone}

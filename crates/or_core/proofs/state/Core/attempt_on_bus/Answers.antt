@@ -1,4 +1,4 @@
-use Rattle.std.proofs.Common.{refl, sym, ◌∙◌}
+use Rattle.std.proofs.Common.{sym, ◌∙◌}
 use Rattle.or_core.proofs.Accesses.{reach-misplaced}
 use Rattle.or_core.proofs.state.Core.attempt_on_bus.Goals as goal
 
