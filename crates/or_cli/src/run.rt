@@ -5,7 +5,7 @@ ghost use Rattle.or_model.specs.Turn.{Board as BoardModel};
 ghost use Rattle.or_replay.specs.Rounds.{IsFinished};
 ghost use Rattle.or_words.specs.Settings.{Fits, ram_bytes};
 ghost use Rattle.or_elf.specs.Fault.{elf_fault};
-ghost use Rattle.or_command_line.specs.Command.{run_names, AreWritten};
+ghost use Rattle.or_command_line.specs.Names.{run_names, AreWritten};
 ghost use Rattle.or_command.specs.Leaves.{Silent};
 ghost use Rattle.or_command.specs.Ends.{end_of};
 ghost use Rattle.or_command.specs.Outcomes.{CommandOutcome, LeavesAll};
