@@ -36,7 +36,7 @@ begins_both (x ∷ xs) (y ∷ ys) (z ∷ all) a b h =
     let r = begins_both xs ys all (a.0, left) (b.0, right) (omega arith) in (r.0, λ i. same i ∷ r.1 i)
 
 -- the longer of two, and what is known of either
-longer_has : (P : List ℕ → Type 0) (xs ys : List ℕ) → (length xs ≤ length ys → P ys) → (length ys ≤ length xs → P xs) → P (longer xs ys)
+pub longer_has : (P : List ℕ → Type 0) (xs ys : List ℕ) → (length xs ≤ length ys → P ys) → (length ys ≤ length xs → P xs) → P (longer xs ys)
 longer_has P xs ys one two = go (leb (length xs) (length ys)) refl
   where
     go : (b : Bool) → leb (length xs) (length ys) ≡ b → P (cond b ys xs)

@@ -83,11 +83,11 @@ get_set_here [] place new h = absurd (omega arith)
 get_set_here (core ∷ cores) zero new h = refl
 get_set_here (core ∷ cores) (suc place) new h = get_set_here cores place new (omega arith)
 
-abbrev or_no_core : Option Core → Core
+abbrev pub or_no_core : Option Core → Core
 or_no_core None = no_core
 or_no_core (Some core) = core
 
-at_get : (cores : List Core) (c : ℕ) → core_at cores c ≡ or_no_core (slice_get cores c)
+pub at_get : (cores : List Core) (c : ℕ) → core_at cores c ≡ or_no_core (slice_get cores c)
 at_get [] c = refl
 at_get (core ∷ cores) zero = refl
 at_get (core ∷ cores) (suc c) = at_get cores c

@@ -1,5 +1,5 @@
 -- A turn makes at least one step, and no core goes past its budget.
-use Rattle.std.proofs.Common.{◌≡◌, ℕ, zero, suc, ◌+◌, ◌<◌, ◌≤◌, List, [], ◌∷◌, ◌++◌, length, refl, sym, ap, ◌∙◌, subst, arith, None}
+use Rattle.std.proofs.Common.{◌≡◌, ℕ, zero, suc, ◌+◌, ◌*◌, ◌<◌, ◌≤◌, List, [], ◌∷◌, ◌++◌, length, refl, sym, ap, ◌∙◌, subst, arith, None}
 use mathlib.Core.Logic.{dite}
 use native.Mathlib.Decide.{ℕ_discrete}
 use Rattle.or_words.specs.declared.Config.{Config}
@@ -12,6 +12,7 @@ use Rattle.or_replay.specs.Start.{start}
 use Rattle.or_replay.proofs.Reset.{length-reset_cores}
 use Rattle.or_turn.specs.declared.view.Settings.{Settings}
 use Rattle.or_turn.specs.Schedules.{first_board, board_of, core_at, IsDefined, count}
+use Rattle.or_turn.proofs.Lengths.{AllBelow, length_most}
 use Rattle.or_turn.proofs.Replays.{MayTurn, MayAll, turned_board, turned_other, turned_here, turned_length, fold_turns, replay_folds, replays, count_none, count_same, count_other, count_cons}
 
 -- where a core may stand: it has this number and this budget, and steps left while it runs
@@ -38,6 +39,12 @@ fold_sound : (config : Config) (b : Board) (xs : List ℕ) → AllSound config b
 unfolding fold_turns MayAll
 fold_sound config b [] all may = all
 fold_sound config b (x ∷ xs) all may = fold_sound config (turned_board b x) xs (turned_sound config b x all may.0) may.1
+
+-- each entry is one of the board's cores
+fold_below : (b : Board) (xs : List ℕ) → MayAll b xs → AllBelow (length b.cores) xs
+unfolding MayAll
+fold_below b [] may = tt
+fold_below b (x ∷ xs) may = (may.0.0, subst (λ (n : ℕ). AllBelow n xs) (turned_length b x) (fold_below (turned_board b x) xs may.1))
 
 -- each entry of a core is at least one of its steps
 fold_steps : (config : Config) (b : Board) (xs : List ℕ) (c : ℕ) → AllSound config b → MayAll b xs → (core_at b.cores c).steps + count c xs ≤ (core_at (fold_turns b xs).cores c).steps
@@ -90,9 +97,16 @@ module _ (st : Settings) (fits : Fits st.config) where
     pub sound : AllSound st.config (board_of st xs)
     sound = let f = replay_folds (first_board st) (board_of st xs) xs (replays st xs defined) in subst (AllSound st.config) (sym f.1) (fold_sound st.config (first_board st) xs first_sound f.0)
 
+    pub entries_below : AllBelow st.config.cores xs
+    entries_below = let f = replay_folds (first_board st) (board_of st xs) xs (replays st xs defined) in subst (λ (n : ℕ). AllBelow n xs) first_sound.as_many (fold_below (first_board st) xs f.0)
+
     pub count_steps : (c : ℕ) → count c xs ≤ (core_at (board_of st xs).cores c).steps
     count_steps c = let f = replay_folds (first_board st) (board_of st xs) xs (replays st xs defined) in let h = fold_steps st.config (first_board st) xs c first_sound f.0 in
         let same : (core_at (board_of st xs).cores c).steps ≡ (core_at (fold_turns (first_board st) xs).cores c).steps = ap (λ (d : Board). (core_at d.cores c).steps) f.1 in omega arith
+
+    -- and there are few of them
+    pub few_turns : length xs ≤ st.config.cores * st.config.budget
+    few_turns = length_most st.config.cores st.config.budget xs entries_below (λ c h. let a = count_steps c in let s = sound.each c h in let b = s.within.steps in let e = s.same_budget in omega arith)
 
     -- no core has more entries than its budget, and one that runs has fewer
     pub count_budget : (c : ℕ) → c < st.config.cores → count c xs ≤ st.config.budget

@@ -8,7 +8,10 @@ use native.Mathlib.Decide.{ℕ_discrete}
 use Rattle.or_turn.specs.declared.view.Settings.{Settings}
 use Rattle.or_model.specs.Core.{Core}
 use Rattle.or_turn.specs.Schedules.{count, core_at, board_of}
-use Rattle.or_turn.proofs.Replays.{count_same, count_cons}
+use Rattle.std.specs.Prelude.{slice_get, Some}
+use Rattle.or_bus.specs.State.{BusState}
+use Rattle.or_replay.specs.Board.{AreOfBus}
+use Rattle.or_turn.proofs.Replays.{count_same, count_cons, at_get, or_no_core}
 use Rattle.or_turn.proofs.Lengths.{AllBelow, length_most, length_least}
 use Rattle.or_turn.specs.declared.view.Transfer.{Transfer}
 use Rattle.or_turn.specs.declared.view.JoinedHalves.{JoinedHalves}
@@ -75,3 +78,17 @@ module _ (v : View) (transfer : Transfer) (shut : LastKnows v transfer) (all : (
       or_count [] j h = absurd (omega arith)
       or_count (x ∷ xs) zero h = let a = count_cons x x xs in let b = count_same x in omega arith
       or_count (x ∷ xs) (suc j) h = let r = or_count xs j (omega arith) in let a = count_cons (get_or xs j 0) x xs in omega arith
+
+  -- and they are the cores of the bus
+  pub shut_order : (row : List Core) (bus : BusState) → row ≡ (board_of v.settings shut.schedule).cores → bus.cores ≡ transfer.bus.cores → AreOfBus row bus
+  shut_order row bus same of =
+      let all_sound = sound v.settings shut.fits shut.schedule shut.defined in let many : length row ≡ v.settings.config.cores = ap (λ (l : List Core). length l) same ∙ all_sound.as_many in record {
+        many = many ∙ sym (of ∙ shut.holds.cores);
+        numbered = λ c core found. let at : core_at (board_of v.settings shut.schedule).cores c ≡ core = ap (λ (l : List Core). core_at l c) (sym same) ∙ (at_get row c ∙ ap or_no_core found) in
+            ap (λ (k : Core). k.number) (sym at) ∙ (all_sound.each c (let inside = got_inside row c core found in omega arith)).same_number;
+      }
+    where
+      got_inside : (cores : List Core) (c : ℕ) (core : Core) → slice_get cores c ≡ Some core → c < length cores
+      got_inside [] c core found = absurd (let b : ⊥ = cc in b)
+      got_inside (first ∷ cores) zero core found = omega arith
+      got_inside (first ∷ cores) (suc c) core found = let i = got_inside cores c core found in omega arith
