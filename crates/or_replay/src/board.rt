@@ -89,6 +89,7 @@ impl Board {
         ensures cores { result.0.items ≡ self.cores }
         ensures bus { result.1 ≡ self.bus }
         ensures order { AreOfBus result.0.items result.1 }
+        ensures room { steps_left result.0.items ≤ result.1.spare }
     {
         (self.cores, self.bus)
     }
