@@ -21,7 +21,7 @@ use std::thread;
 use std::thread::Threads;
 
 // Works a unit's core until its stop.
-fn work_unit<R: Wait, G: Gate>(rt: &R, shared: &Shared, unit: &mut Unit, gate: &G)
+pub(crate) fn work_unit<R: Wait, G: Gate>(rt: &R, shared: &Shared, unit: &mut Unit, gate: &G)
     requires fits { Fits (settings_in shared.now).config }
     requires starts { Starts (id_of shared.now) (settings_in shared.now) (only_of (view unit.old)) unit.old }
     ensures { Worked (id_of shared.now) (settings_in shared.now) (only_of (view unit.old)) unit.new }
