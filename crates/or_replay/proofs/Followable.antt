@@ -1,5 +1,5 @@
 -- A schedule is followed to its end exactly where it leads there and its marks are those of the board's history.
-use Rattle.std.proofs.Common.{◌≡◌, ◌≢◌, ℕ, ◌+◌, ◌*◌, ◌/◌, ◌<◌, ◌≤◌, zero, suc, List, [], ◌∷◌, ◌++◌, Some, None, length, take, drop, refl, ap, sym, ◌∙◌, arith, subst, add-one, ◌⊎◌, inl, inr, length-append, Bool, true, false, cond, ◌&&◌}
+use Rattle.std.proofs.Common.{◌≡◌, ℕ, ◌+◌, ◌*◌, ◌/◌, ◌<◌, ◌≤◌, zero, suc, List, [], ◌∷◌, ◌++◌, Some, None, length, take, drop, refl, ap, sym, ◌∙◌, arith, subst, add-one, ◌⊎◌, inl, inr, Bool, true, false, cond, ◌&&◌}
 use Rattle.std.specs.Prelude.{Option, slice_get, Result, Ok, Err, is_none, MatchResult}
 use Rattle.std.proofs.lemmas.List.{take-append-drop, take_all}
 use Rattle.or_sched.specs.declared.recording.Mark.{Mark}
@@ -125,7 +125,7 @@ stopped_core now c inside stopped =
     let core : Core = found.0 in
     ap (λ o. board_turned_by now c (running o)) found.1 ∙ ap (λ b. board_turned_by now c (cond b (Some core) None)) (stopped core found.1)
 
-refused_board : (refused : Refused) (now : Board) (c : ℕ) → RefusedBy now.cores c (Err refused) → board_turned now c ≡ None
+refused_board : (refused : Refused) (now : Board) (c : ℕ) → RefusedBy {T = Unit {0}} now.cores c (Err refused) → board_turned now c ≡ None
 refused_board NoSuchCore now c why = refused_core now c why
 refused_board CoreStopped now c why = stopped_core now c why.0 why.1
 

@@ -14,7 +14,7 @@ use Rattle.or_replay.specs.declared.board.Refused.{Refused}
 use Rattle.or_replay.specs.declared.board.Refused.TheVariants.{NoSuchCore, CoreStopped}
 use Rattle.or_replay.specs.declared.follow.TurnFault.{TurnFault}
 use Rattle.or_replay.specs.declared.follow.TurnFault.TheVariants.{NoCore, Stopped, Running, Writes, Console}
-use Rattle.or_replay.specs.Following.{AgreeWithin, LeadsTo, TurnRefused, MarkRefused, IsFollowed, IsLed, IsAdvanced, IsCompared, IsRefusedMark, IsFirstRunning, TellsOf, Differs}
+use Rattle.or_replay.specs.Following.{AgreeWithin, TurnRefused, MarkRefused, IsFollowed, IsLed, IsAdvanced, IsCompared, IsRefusedMark, IsFirstRunning, TellsOf, Differs}
 use Rattle.or_replay.proofs.Replaying.{replay_one_more}
 
 -- a list's first n + 1 elements
@@ -136,23 +136,23 @@ advanced block start turns given n c done (Err fault) here cores new_cores bus n
     mark_stops block start turns given n fault here new_cores new_bus some (taken block start turns given n c done cores new_cores bus new_bus led at turned) is_here is
 
 turn_refused : (block : ℕ) (start : Board) (turns : List ℕ) (given : List Mark) (n c : ℕ) (refused : Refused) (cores : List Core) (bus : BusState)
-    → (led : IsLed block start turns given n cores bus) → slice_get turns n ≡ Some c → RefusedBy cores c (Err refused)
+    → (led : IsLed block start turns given n cores bus) → slice_get turns n ≡ Some c → RefusedBy {T = Unit {0}} cores c (Err refused)
     → TurnRefused block start turns given n refused led.now
 turn_refused block start turns given n c refused cores bus led at why = record {
   before = led.leads;
   core = c;
   turn = at;
-  why = subst (λ (l : List Core). RefusedBy l c (Err refused)) led.is.same_cores why;
+  why = subst (λ (l : List Core). RefusedBy {T = Unit {0}} l c (Err refused)) led.is.same_cores why;
 }
 
 pub no_core_stops : (block : ℕ) (start : Board) (turns : List ℕ) (given : List Mark) (n c : ℕ) (cores new_cores : List Core) (bus new_bus : BusState)
-    → IsLed block start turns given n cores bus → slice_get turns n ≡ Some c → RefusedBy cores c (Err NoSuchCore) → new_cores ≡ cores → new_bus ≡ bus
+    → IsLed block start turns given n cores bus → slice_get turns n ≡ Some c → RefusedBy {T = Unit {0}} cores c (Err NoSuchCore) → new_cores ≡ cores → new_bus ≡ bus
     → IsFollowed block start turns given (Err (NoCore n)) new_cores new_bus
 no_core_stops block start turns given n c cores new_cores bus new_bus led at why same_cores same_bus =
     rw (same_cores, same_bus) (record { last = led.now; is = led.is; followed = turn_refused block start turns given n c NoSuchCore cores bus led at why })
 
 pub stopped_stops : (block : ℕ) (start : Board) (turns : List ℕ) (given : List Mark) (n c : ℕ) (cores new_cores : List Core) (bus new_bus : BusState)
-    → IsLed block start turns given n cores bus → slice_get turns n ≡ Some c → RefusedBy cores c (Err CoreStopped) → new_cores ≡ cores → new_bus ≡ bus
+    → IsLed block start turns given n cores bus → slice_get turns n ≡ Some c → RefusedBy {T = Unit {0}} cores c (Err CoreStopped) → new_cores ≡ cores → new_bus ≡ bus
     → IsFollowed block start turns given (Err (Stopped n)) new_cores new_bus
 stopped_stops block start turns given n c cores new_cores bus new_bus led at why same_cores same_bus =
     rw (same_cores, same_bus) (record { last = led.now; is = led.is; followed = turn_refused block start turns given n c CoreStopped cores bus led at why })

@@ -27,7 +27,7 @@ pub record TurnRefused (block : ℕ) (start : Board) (turns : List ℕ) (given :
   pub before : LeadsTo block start turns given n now
   pub core : ℕ
   pub turn : slice_get turns n ≡ Some core
-  pub why : RefusedBy now.cores core (Err refused)
+  pub why : RefusedBy {T = Unit {0}} now.cores core (Err refused)
 
 -- the first number in which the mark that was kept differs from the one that is found
 abbrev pub Differs : Mark → Mark → TurnFault → Type 0

@@ -5,3 +5,4 @@ pub mod Opening
 pub mod Report
 pub mod Rounds
 pub mod Following
+pub mod Watching

@@ -4,8 +4,10 @@
 mod board;
 mod follow;
 mod opening;
+mod readers;
 mod reporting;
 mod rounds;
+mod watching;
 
 pub use board::{Board, Refused};
 pub use follow::TurnFault;

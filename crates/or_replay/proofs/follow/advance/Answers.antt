@@ -1,10 +1,7 @@
-use Rattle.std.proofs.Common.{rules, arith, ◌≡◌, ◌+◌, ℕ, List, Some, ap, sym, subst}
-use Rattle.std.specs.Prelude.{slice_get, slice_index, Result}
+use Rattle.std.proofs.Common.{rules, ap}
+use Rattle.std.specs.Prelude.{slice_index}
 use Rattle.std.proofs.lemmas.Option.{slice_get-get_or}
-use Rattle.or_bus.specs.State.{BusState}
-use Rattle.or_model.specs.Core.{Core}
 use Rattle.or_replay.specs.Board.{BoardState}
-use Rattle.or_replay.specs.Following.{IsAdvanced}
 use Rattle.or_replay.proofs.Followed.{advanced, no_core_stops, stopped_stops}
 use Rattle.or_replay.proofs.follow.advance.Goals as goal
 

@@ -1,5 +1,4 @@
-use Rattle.std.proofs.Common.{rules, sym, ◌∙◌, ◌≡◌, Some, None, List}
-use Rattle.or_replay.proofs.Followed.{no_mark, no_block, mark_compared}
+use Rattle.or_replay.proofs.Followed.{no_block}
 use Rattle.or_replay.proofs.follow.compare.Goals as goal
 
 pub returns-then-made-block-ne0 : goal.returns-then-made-block-ne0
