@@ -1,7 +1,9 @@
 //! Runs of the top call over a host in memory.
 use super::*;
 use std::alloc::{AllocError, Global};
+use std::sync::Wait;
 use std::test::Fail;
+use std::thread::Threads;
 
 // A file with one segment of four instructions at 00000100, which print `H` and stop.
 const IMAGE: [u8; 100] = [
@@ -34,7 +36,13 @@ fn host(alloc: Global, image: &[u8], call: u64) -> Result<MemHost, Fail> {
 fn the_board_says_hello(rt: HostRuntime) -> Result<(), Fail> {
     let alloc = rt.alloc();
     let mut host = host(alloc, &IMAGE, 0)?;
-    let status = top(alloc, &words(alloc, "run h.elf - s r")?, &mut host);
+    let status = top(
+        &rt,
+        alloc,
+        &words(alloc, "run h.elf - s r")?,
+        &mut host,
+        &OpenGate,
+    );
     assert_eq!(rt; status, 0);
     assert!(rt; host.written() == b"H".as_slice());
     assert!(rt; host.said().is_empty());
@@ -78,7 +86,13 @@ fn each_call_fails_in_turn(rt: HostRuntime) -> Result<(), Fail> {
     for (index, line) in said.iter().enumerate() {
         let call = index as u64 + 1;
         let mut host = host(alloc, &IMAGE, call)?;
-        let status = top(alloc, &words(alloc, "run h.elf i s r --ram 1")?, &mut host);
+        let status = top(
+            &rt,
+            alloc,
+            &words(alloc, "run h.elf i s r --ram 1")?,
+            &mut host,
+            &OpenGate,
+        );
         assert_eq!(rt; status, if call <= 2 { 5 } else { 6 });
         assert_eq!(rt; host.said(), *line);
         assert_eq!(rt; host.file("s").is_some(), call > 3);
@@ -89,22 +103,27 @@ fn each_call_fails_in_turn(rt: HostRuntime) -> Result<(), Fail> {
 }
 
 // The status of a run of an image, and what is said of it.
-fn ran(alloc: Global, image: &[u8], line: &str) -> Result<(u8, Vec<u8>), Fail> {
+fn ran<R: Threads + Wait + Sync>(
+    rt: &R,
+    alloc: Global,
+    image: &[u8],
+    line: &str,
+) -> Result<(u8, Vec<u8>), Fail> {
     let mut host = host(alloc, image, 0)?;
-    let status = top(alloc, &words(alloc, line)?, &mut host);
+    let status = top(rt, alloc, &words(alloc, line)?, &mut host, &OpenGate);
     Ok((status, Vec::from_slice(alloc, host.said())?))
 }
 
 #[test]
 fn images_are_refused(rt: HostRuntime) -> Result<(), Fail> {
     let alloc = rt.alloc();
-    let (status, said) = ran(alloc, &IMAGE[..51], "run h.elf - s r")?;
+    let (status, said) = ran(&rt, alloc, &IMAGE[..51], "run h.elf - s r")?;
     assert!(rt; status == 3 && said.as_slice() == b"or1k: image h.elf fault 1 51\n".as_slice());
-    let (status, said) = ran(alloc, &IMAGE[..83], "run h.elf - s r")?;
+    let (status, said) = ran(&rt, alloc, &IMAGE[..83], "run h.elf - s r")?;
     assert!(rt; status == 3 && said.as_slice() == b"or1k: image h.elf fault 1 83\n".as_slice());
-    let (status, said) = ran(alloc, &IMAGE, "run h.elf - s s")?;
+    let (status, said) = ran(&rt, alloc, &IMAGE, "run h.elf - s s")?;
     assert!(rt; status == 2 && said.as_slice() == b"or1k: usage\n".as_slice());
-    let (status, said) = ran(alloc, &IMAGE, "run x - s r")?;
+    let (status, said) = ran(&rt, alloc, &IMAGE, "run x - s r")?;
     assert!(rt; status == 5 && said.as_slice() == b"or1k: read x\n".as_slice());
     Ok(())
 }
@@ -119,27 +138,26 @@ fn segments_end_within_ram(rt: HostRuntime) -> Result<(), Fail> {
     image[65] = 0x0F;
     image[66] = 0xFF;
     image[67] = 0xF0;
-    let (status, said) = ran(alloc, &image, "run h.elf - s r --budget 1 --ram 1")?;
+    let (status, said) = ran(&rt, alloc, &image, "run h.elf - s r --budget 1 --ram 1")?;
     assert!(rt; status == 0 && said.is_empty());
     image[75] = 0x11;
-    let (status, said) = ran(alloc, &image, "run h.elf - s r --budget 1 --ram 1")?;
+    let (status, said) = ran(&rt, alloc, &image, "run h.elf - s r --budget 1 --ram 1")?;
     assert!(rt; status == 3 && said.as_slice() == b"or1k: image h.elf fault 6 0\n".as_slice());
     Ok(())
 }
 
-// Two cores take turns by rounds.
+// Whatever the order of their turns, each core makes two.
 #[test]
-fn cores_take_turns(rt: HostRuntime) -> Result<(), Fail> {
+fn two_cores_run(rt: HostRuntime) -> Result<(), Fail> {
     let alloc = rt.alloc();
     let mut image = IMAGE;
     image[84..92].copy_from_slice(&[0xA8, 0x60, 0, 0, 0x15, 0, 0, 1]);
     let mut host = host(alloc, &image, 0)?;
-    let status = top(
-        alloc,
-        &words(alloc, "run h.elf - s r --cores 2 --ram 1")?,
-        &mut host,
+    let words = words(alloc, "run h.elf - s r --cores 2 --ram 1")?;
+    assert_eq!(rt; top(&rt, alloc, &words, &mut host, &OpenGate), 0);
+    let report = host.file("r").ok_or("no report")?;
+    assert!(rt;
+        report.starts_with(b"orreport 1\ncores 2 turns 4 console 0\ncore 0 exit 00000000 steps 2 ")
     );
-    assert_eq!(rt; status, 0);
-    assert!(rt; host.file("s").ok_or("no recording")?.ends_with(b"\nabab\n"));
     Ok(())
 }
