@@ -11,13 +11,13 @@ ghost use Rattle.or_command.specs.Leaves.{Silent};
 ghost use Rattle.or_command.specs.Ends.{end_of};
 ghost use Rattle.or_command.specs.Outcomes.{CommandOutcome, LeavesAll};
 ghost use Rattle.or_command.specs.Loads.{bytes_of};
-ghost use Rattle.or_cli.specs.Loaded.{image_in as image_of};
+ghost use Rattle.or_command_image.specs.Loaded.{image_in as image_of};
 ghost use Rattle.or_cli.specs.Run.{run_loads, run_check, head_of, IsRun, IsRunFrom, RunWrites};
 ghost use Rattle.or_cli.specs.Finish.{WriteEnds, FinishEnds, RunFails};
 
-use crate::loaded::{image_in, input_in, load_image};
 use or_board::Gate;
 use or_command::{LoadStop, Outcome, Output, Refusal, write_outputs};
+use or_command_image::{image_in, input_in, load_image};
 use or_command_line::Run;
 use or_host::Host;
 use or_replay::{OpenFault, report};
