@@ -71,9 +71,23 @@ fn the_board_says_hello(rt: HostRuntime) -> Result<(), Fail> {
     Ok(())
 }
 
+// Whether the host holds the first half of a text under a name, with the half rounded down.
+fn is_half(part: Option<&[u8]>, whole: &[u8]) -> bool {
+    match part {
+        Some(part) => part.len() == whole.len() / 2 && whole.starts_with(part),
+        None => false,
+    }
+}
+
+// What a failing call leaves: the outputs before it are whole, its own is as before or a half, and the others are as before.
 #[test]
 fn each_call_fails_in_turn(rt: HostRuntime) -> Result<(), Fail> {
     let alloc = rt.alloc();
+    let words = words(alloc, "run h.elf i s r --ram 1")?;
+    let mut sound = host(alloc, &IMAGE, 0)?;
+    assert_eq!(rt; top(&rt, alloc, &words, &mut sound, &OpenGate), 0);
+    let recording = sound.file("s").ok_or("no recording")?;
+    let report = sound.file("r").ok_or("no report")?;
     let said: [&[u8]; 7] = [
         b"or1k: read h.elf\n",
         b"or1k: read i\n",
@@ -86,19 +100,42 @@ fn each_call_fails_in_turn(rt: HostRuntime) -> Result<(), Fail> {
     for (index, line) in said.iter().enumerate() {
         let call = index as u64 + 1;
         let mut host = host(alloc, &IMAGE, call)?;
-        let status = top(
-            &rt,
-            alloc,
-            &words(alloc, "run h.elf i s r --ram 1")?,
-            &mut host,
-            &OpenGate,
-        );
+        let status = top(&rt, alloc, &words, &mut host, &OpenGate);
         assert_eq!(rt; status, if call <= 2 { 5 } else { 6 });
         assert_eq!(rt; host.said(), *line);
-        assert_eq!(rt; host.file("s").is_some(), call > 3);
-        assert_eq!(rt; host.file("r").is_some(), call > 5);
         assert_eq!(rt; host.written().len(), 0);
+        assert_eq!(rt; host.file("s").is_some(), call > 3);
+        assert_eq!(rt; is_half(host.file("s"), recording), call == 4);
+        assert_eq!(rt; host.file("s") == Some(recording), call > 4);
+        assert_eq!(rt; host.file("r").is_some(), call > 5);
+        assert_eq!(rt; is_half(host.file("r"), report), call == 6);
+        assert_eq!(rt; host.file("r") == Some(report), call == 7);
     }
+    Ok(())
+}
+
+// A fault of what is said changes no status.
+#[test]
+fn a_line_may_fail(rt: HostRuntime) -> Result<(), Fail> {
+    let alloc = rt.alloc();
+    let mut host = host(alloc, &IMAGE[..51], 2)?;
+    let words = words(alloc, "run h.elf - s r")?;
+    assert_eq!(rt; top(&rt, alloc, &words, &mut host, &OpenGate), 3);
+    assert_eq!(rt; host.said(), b"or1k: ".as_slice());
+    assert!(rt; host.file("s").is_none() && host.file("r").is_none());
+    Ok(())
+}
+
+#[test]
+fn an_image_may_be_too_long(rt: HostRuntime) -> Result<(), Fail> {
+    let alloc = rt.alloc();
+    let image = vec![in alloc; 0u8; 67_108_865]?;
+    let (status, said) = ran(&rt, alloc, &image, "run h.elf - s r")?;
+    assert_eq!(rt; status, 8);
+    assert_eq!(rt;
+        said.as_slice(),
+        b"or1k: too long h.elf 67108864\n".as_slice()
+    );
     Ok(())
 }
 
