@@ -16,7 +16,7 @@ use Rattle.or_command.specs.Writes.{File}
 use Rattle.or_command.specs.Ends.{FailedCheck, status_of, CommandEnd, done, unread, too_long, refused, unwritten, no_memory}
 use Rattle.or_command.specs.Outcomes.{AreApart, CommandOutcome, LeavesAll}
 use Rattle.or_command.proofs.OutcomesLemmas.{done_outcome, unwritten_outcome, refusal_outcome, memory_outcome}
-use Rattle.or_cli.specs.Loaded.{image_loads, image_in, image_check, input_limit}
+use Rattle.or_command_image.specs.Loaded.{image_loads, image_in, image_check, input_limit}
 use Rattle.or_cli.specs.Top.{RunComplete}
 use Rattle.or_cli.specs.Run.{run_loads, run_check, RunWrites}
 use Rattle.or_cli.specs.Finish.{FinishEnds}

@@ -4,4 +4,5 @@ pub mod WritesLemmas
 pub mod LoadsLemmas
 pub mod OutcomesLemmas
 pub mod CompleteLemmas
+pub mod FinishingLemmas
 pub mod AnsweredLemmas

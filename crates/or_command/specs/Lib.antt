@@ -5,4 +5,5 @@ pub mod Lines
 pub mod Said
 pub mod Ends
 pub mod Outcomes
+pub mod Finishing
 pub mod Answered

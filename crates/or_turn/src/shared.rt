@@ -1,0 +1,38 @@
+//! The bus that units share.
+ghost use Rattle.std.specs.Prelude.{◌≡◌};
+
+use crate::plays::TurnRule;
+use crate::view::{OpenedWith, Transfer, View};
+use arrayvec::ArrayVec;
+use atomic_table::Table;
+use or_bus::Bus;
+use or_core::Core;
+use or_sched::Mark;
+use std::alloc::Global;
+
+mod closing;
+mod joining;
+mod opening;
+mod sleepers;
+mod steps;
+mod turning;
+
+use sleepers::Sleepers;
+
+/// What units share: the bus with the schedule so far, whose turn it is, and where the others sleep.
+/// Threads may share it.
+#[derive(Drop)]
+pub struct Shared {
+    table: Table<Option<Transfer>, View, OpenedWith, TurnRule, Global>,
+    sleepers: Sleepers,
+    ghost sized: { (table.shared.table_id.words ≡ 3) × (table.shared.table_id.slots ≡ 1) },
+}
+
+/// What is left when all units are joined: the cores in order of number, the bus, the schedule and its marks.
+#[derive(Drop)]
+pub struct Closed {
+    pub cores: ArrayVec<Core, 8>,
+    pub bus: Bus,
+    pub schedule: Vec<u8>,
+    pub marks: Vec<Mark>,
+}
