@@ -1,51 +1,61 @@
 -- What the top call says of each command.
-use Rattle.std.specs.Prelude.{◌≡◌, ◌⊎◌, ℕ, List, Bool, true, false, Option, Some, None, if◌then◌else◌}
+use Rattle.std.specs.Prelude.{ℕ, List, Bool, true, false, ◌||◌, Option, Some, None, if◌then◌else◌}
 use Rattle.or_host.specs.HostState.{HostState}
-use Rattle.or_host.specs.Counts.{Rose}
-use Rattle.or_words.specs.declared.Config.{Config}
-use Rattle.or_command_line.specs.Names.{Names}
 use Rattle.or_command_line.specs.Command.{Shown, command_of}
-use Rattle.or_command_line.specs.Command.Shown.{run}
-use Rattle.or_command.specs.Ends.{CommandEnd, status_of}
+use Rattle.or_command_line.specs.Command.Shown.{run, replay, asm, dis, gen}
 use Rattle.or_command.specs.Lines.{usage_line}
 use Rattle.or_command.specs.Said.{SaidLine}
-use Rattle.or_command.specs.Outcomes.{CommandRuns, LeavesAll, AllTold, end_of_files}
+use Rattle.or_command.specs.Outcomes.{LeavesAll, Computes}
+use Rattle.or_command.specs.Answered.{Answers, IsDecided}
+use Rattle.or_command_replay.specs.Replay.{replay_loads, RecordedVerdict, ReplayWrites}
+use Rattle.or_command_source.specs.Assembly.{asm_loads, asm_check, AsmWrites}
+use Rattle.or_command_source.specs.Listing.{dis_loads, dis_check, DisWrites, DisLacks}
+use Rattle.or_command_source.specs.Generation.{gen_loads, gen_check, GenWrites}
 use Rattle.or_cli.specs.Run.{run_loads, run_check, RunWrites}
 
--- the commands that the top call does
-abbrev pub is_done : Shown → Bool
-is_done (run names config) = true
-is_done _ = false
+-- the commands whose cores wait for one another
+abbrev pub is_waiting : Shown → Bool
+is_waiting (run names config) = true
+is_waiting _ = false
 
-abbrev pub done_command : Option Shown → Option Shown
-done_command None = None
-done_command (Some command) = if is_done command then Some command else None
+-- the commands that always return, as far as they are built
+abbrev pub is_alone : Shown → Bool
+is_alone (replay files report) = true
+is_alone (asm source image) = true
+is_alone (dis image) = true
+is_alone (gen workload source) = true
+is_alone _ = false
 
--- the command that the words are, among those that the top call does
-abbrev pub top_command : List (List ℕ) → Option Shown
-top_command words = done_command (command_of words)
+abbrev pub is_built : Shown → Bool
+is_built command = is_waiting command || is_alone command
+
+abbrev pub only : (Shown → Bool) → Option Shown → Option Shown
+only test None = None
+only test (Some command) = if test command then Some command else None
+
+-- the command that the words are, among those of a call
+abbrev pub command_among : (Shown → Bool) → List (List ℕ) → Option Shown
+command_among test words = only test (command_of words)
 
 -- words that are no command: that is said, and nothing else happens
 pub record IsUsage (old new : HostState) : Type 0 where
   pub left : LeavesAll old new
   pub said : SaidLine usage_line old new
 
--- a run came to an end of this status, and stands there
-pub record RunEnds (names : Names) (config : Config) (status : ℕ) (old new : HostState) : Type 0 where
-  pub end : CommandEnd
-  pub status_is : status ≡ status_of end
-  pub runs : CommandRuns (run_loads names) (run_check names config) (RunWrites names config) LeavesAll end old new
-
--- files that are told, and no fault: the status is theirs, or memory ran out
-abbrev pub RunComplete : Names → Config → ℕ → HostState → HostState → Type 0
-RunComplete names config status old new = (files : List (List ℕ)) → AllTold (run_loads names) files new → ¬ Rose old.faults new.faults
-    → (status ≡ status_of (end_of_files (run_loads names) (run_check names config) (RunWrites names config) LeavesAll files)) ⊎ (status ≡ 7)
-
 -- what stands after a command with this status
 abbrev pub CommandEnds : Shown → ℕ → HostState → HostState → Type 0
-CommandEnds (run names config) status old new = RunEnds names config status old new
+CommandEnds (run names config) status old new = Answers (run_loads names) (Computes (run_check names config)) (RunWrites names config) LeavesAll status old new
+CommandEnds (replay files report) status old new = Answers (replay_loads files) (RecordedVerdict files) (ReplayWrites files report) LeavesAll status old new
+CommandEnds (asm source image) status old new = Answers (asm_loads source) (Computes (asm_check source)) (AsmWrites image) LeavesAll status old new
+CommandEnds (dis image) status old new = Answers (dis_loads image) (Computes (dis_check image)) DisWrites (DisLacks image) status old new
+CommandEnds (gen workload source) status old new = Answers gen_loads (Computes gen_check) (GenWrites workload source) LeavesAll status old new
 CommandEnds _ status old new = ⊥
 
+-- where no fault came, its files decide its status, or memory ran out
 abbrev pub IsComplete : Shown → ℕ → HostState → HostState → Type 0
-IsComplete (run names config) status old new = RunComplete names config status old new
+IsComplete (run names config) status old new = IsDecided (run_loads names) (Computes (run_check names config)) (RunWrites names config) LeavesAll status old new
+IsComplete (replay files report) status old new = IsDecided (replay_loads files) (RecordedVerdict files) (ReplayWrites files report) LeavesAll status old new
+IsComplete (asm source image) status old new = IsDecided (asm_loads source) (Computes (asm_check source)) (AsmWrites image) LeavesAll status old new
+IsComplete (dis image) status old new = IsDecided (dis_loads image) (Computes (dis_check image)) DisWrites (DisLacks image) status old new
+IsComplete (gen workload source) status old new = IsDecided gen_loads (Computes gen_check) (GenWrites workload source) LeavesAll status old new
 IsComplete _ status old new = ⊥
