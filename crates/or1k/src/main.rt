@@ -1,7 +1,7 @@
 //! The command `or1k`.
 #![tactic(auto)]
 
-use or_cli::{FileHost, top};
+use or_cli::{FileHost, OpenGate, top};
 use std::env;
 use std::process::ExitCode;
 
@@ -57,5 +57,5 @@ fn main(rt: HostRuntime) -> ExitCode {
         return ExitCode::from(0);
     }
     let mut host = FileHost::new(&rt);
-    ExitCode::from(top(alloc, &words, &mut host))
+    ExitCode::from(top(&rt, alloc, &words, &mut host, &OpenGate))
 }

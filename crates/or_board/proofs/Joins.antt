@@ -10,7 +10,7 @@ use Rattle.or_sched.specs.Schedule.{IsSchedule, AreMarks}
 use Rattle.or_sched.specs.declared.recording.Mark.{Mark}
 use Rattle.or_model.specs.Core.{Core}
 use Rattle.or_replay.specs.Board.{all_stopped}
-use Rattle.or_replay.proofs.Leading.{each_stopped}
+use Rattle.or_replay.proofs.Stopped.{each_stopped}
 use Rattle.or_replay.proofs.Schedules.{start_marks, some_turn}
 use Rattle.or_turn.specs.declared.view.Settings.{Settings}
 use Rattle.or_turn.specs.declared.view.View.{View}

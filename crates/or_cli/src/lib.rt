@@ -2,10 +2,10 @@
 #![tactic(auto)]
 
 mod commands;
-mod loaded;
 mod run;
 
 pub use commands::top;
+pub use or_board::{Gate, OpenGate};
 pub use or_host::{Blame, Deed, Failed, FileHost, Host, LoadFail, MemHost, SureHost};
 
 #[cfg(test)]

@@ -3,11 +3,10 @@ use Rattle.std.proofs.Common.{◌≡◌, ℕ, ◌+◌, ◌-◌, ◌<◌, ◌≤�
 use Rattle.std.specs.Prelude.{Option, slice_get, slice_set, slice_index_or, is_none}
 use Rattle.or_model.specs.Core.{Core}
 use Rattle.or_model.specs.declared.Stop.{Stop}
-use Rattle.or_model.specs.World.{World}
-use Rattle.or_model.specs.Turn.{Board, turn, with_core, running, board_turned, board_turned_by}
+use Rattle.or_model.specs.Turn.{turn}
 use Rattle.or_bus.specs.State.{BusState}
 use Rattle.or_bus.specs.Represents.{Represents}
-use Rattle.or_replay.specs.Board.{steps_left, left_of, IsInOrder, IsBoard, IsCoreTurned, TurnsAt, RunsAt, LeadsOn}
+use Rattle.or_replay.specs.Board.{steps_left, left_of, IsInOrder, IsCoreTurned, TurnsAt}
 
 length-set : (cores : List Core) (place : ℕ) (new : Core) → length (slice_set cores place new) ≡ length cores
 length-set [] place new = refl
@@ -70,27 +69,23 @@ steps_lessen cores place before after bus new_bus is at = fewer_left cores place
 
 pub ruleset turning = (has_room, turned_at, order_stays, steps_lessen)
 
-get_some : (cores : List Core) (c : ℕ) → c < length cores → (core : Core) × (slice_get cores c ≡ Some core)
-get_some [] c inside = absurd (omega arith)
-get_some (core ∷ cores) zero inside = (core, refl)
-get_some (core ∷ cores) (suc c) inside = get_some cores c (omega arith)
-
--- a core that runs leads every board on
-pub leads_on : (cores : List Core) (bus : BusState) (place : ℕ) (new_cores : List Core) (new_bus : BusState) → RunsAt cores place
-    → TurnsAt cores bus place new_cores new_bus → LeadsOn cores bus place new_cores new_bus
-unfolding board_turned
-leads_on cores bus place new_cores new_bus runs turns now is =
-    let found = get_some cores place runs.0 in
-    let core : Core = found.0 in
-    let next : Board = with_core now place (turn core now.world) in
-    let at_now : slice_get now.cores place ≡ Some core = ap (λ l. slice_get l place) (sym is.same_cores) ∙ found.1 in
-    let stop : core.stop ≡ None = runs.1 core found.1 in
-    let run : running (Some core) ≡ Some core = ap (λ (s : Option Stop). cond (is_none s) (Some core) None) stop in
-    let turned : board_turned_by now place (running (slice_get now.cores place)) ≡ Some next = ap (λ o. board_turned_by now place (running o)) at_now ∙ ap (board_turned_by now place) run in
-    let made = turns core now.world found.1 is.represents in
-    (next, turned, record { same_cores = made.0 ∙ ap (λ l. slice_set l place (turn core now.world).core) is.same_cores; represents = made.1 })
-
 pub get_is : (cores : List Core) (c : ℕ) (default : Core) → c < length cores → slice_get cores c ≡ Some (slice_index_or cores c default)
 get_is [] c default inside = absurd (omega arith)
 get_is (core ∷ cores) zero default inside = refl
 get_is (core ∷ cores) (suc c) default inside = get_is cores c default (omega arith)
+
+pub one_core : (cores : List Core) (place : ℕ) (core other : Core) → slice_get cores place ≡ Some core → slice_get cores place ≡ Some other → core ≡ other
+one_core cores place core other at found = let e : Some core ≡ Some other = sym at ∙ found in cc
+
+get_set : (cores : List Core) (place : ℕ) (old new : Core) → slice_get cores place ≡ Some old → slice_get (slice_set cores place new) place ≡ Some new
+get_set [] place old new at = absurd (let b : ⊥ = cc in b)
+get_set (core ∷ cores) zero old new at = refl
+get_set (core ∷ cores) (suc place) old new at = get_set cores place old new at
+
+-- the steps of the core at a place rise by those of its new core
+pub steps_at : (cores : List Core) (place : ℕ) (old new before after : Core) (made : ℕ) → slice_get cores place ≡ Some old → slice_get cores place ≡ Some before
+    → slice_get (slice_set cores place new) place ≡ Some after → new.steps ≡ old.steps + made → after.steps ≡ before.steps + made
+steps_at cores place old new before after made at found new_found steps =
+    let same : old ≡ before = one_core cores place old before at found in
+    let new_same : new ≡ after = one_core (slice_set cores place new) place new after (get_set cores place old new at) new_found in
+    ap (λ (k : Core). k.steps) (sym new_same) ∙ steps ∙ ap (λ (k : Core). k.steps + made) same

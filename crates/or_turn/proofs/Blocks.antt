@@ -3,8 +3,7 @@ use Rattle.std.proofs.Common.{◌≡◌, ℕ, ◌+◌, ◌*◌, ◌/◌, ◌%◌
 use Rattle.std.proofs.lemmas.Bool.Decides.{nat_tests}
 use Rattle.or_sched.specs.declared.recording.Mark.{Mark}
 use Rattle.or_model.specs.Turn.{Board, replay}
-use Rattle.or_replay.specs.Marks.{mark_of, block_marks, marks}
-use Rattle.or_replay.specs.Rounds.{with_mark}
+use Rattle.or_replay.specs.Marks.{mark_of, block_marks, marks, with_mark}
 use Rattle.or_replay.proofs.Replaying.{marks_stay, marks_one_more, length-block_marks}
 use Rattle.or_turn.specs.declared.view.Settings.{Settings}
 use Rattle.or_turn.specs.Schedules.{first_board, board_of, IsDefined}

@@ -8,8 +8,7 @@ use Rattle.or_model.specs.Turn.{Board, turn_begun, turn_ended, turn}
 use Rattle.or_model.proofs.Turns.{Begins, turn_begun-begins}
 use Rattle.or_bus.specs.Represents.{Represents}
 use Rattle.or_core.specs.Follows.{IsState, KeepsBus}
-use Rattle.or_replay.specs.Marks.{marks}
-use Rattle.or_replay.specs.Rounds.{with_mark}
+use Rattle.or_replay.specs.Marks.{marks, with_mark}
 use Rattle.or_turn.specs.declared.view.Settings.{Settings}
 use Rattle.or_turn.specs.declared.view.Transfer.{Transfer}
 use Rattle.or_turn.specs.declared.view.Stage.TheVariants.{Idle}

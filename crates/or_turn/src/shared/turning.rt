@@ -4,7 +4,7 @@ ghost use Rattle.or_model.specs.World.{World};
 ghost use Rattle.or_model.specs.Turn.{turn_ended};
 ghost use Rattle.or_bus.specs.Represents.{Represents};
 ghost use Rattle.or_core.specs.Follows.{IsState, KeepsBus};
-ghost use Rattle.or_replay.specs.Rounds.{with_mark};
+ghost use Rattle.or_replay.specs.Marks.{with_mark};
 ghost use Rattle.or_turn.specs.Shown.{core_of, Turned};
 ghost use Rattle.or_turn.specs.Units.{view, begun, cores, IsOf};
 

@@ -1,0 +1,10 @@
+//! The command `replay`, and the checks of a recorded run with which other commands begin too.
+#![tactic(auto)]
+
+mod checked;
+mod refused;
+mod replaying;
+
+pub use checked::{Checked, Recording, RunFault, check, open_board};
+pub use refused::refuse;
+pub use replaying::replay;
