@@ -1,8 +1,8 @@
-use Rattle.std.proofs.Common.{◌≡◌, ℕ, ◌+◌, ◌<◌, ◌≤◌, List, [], ◌∷◌, ◌++◌, length, get_or, Option, sym, ap, ◌∙◌, subst, arith, length-append}
+use Rattle.std.proofs.Common.{◌≡◌, ℕ, ◌+◌, ◌<◌, List, [], ◌∷◌, ◌++◌, length, get_or, Option, sym, ap, ◌∙◌, subst, arith, length-append}
 use Rattle.std.specs.Option.{option_to_list}
 use Rattle.or_turn.specs.declared.view.Settings.{Settings}
 use Rattle.or_turn.specs.declared.unit.Unit.{Unit as Piece}
-use Rattle.or_turn.specs.Units.{view, settings_in, id_of, Fresh}
+use Rattle.or_turn.specs.Units.{settings_in, id_of}
 use Rattle.or_sched.specs.declared.recording.Mark.{Mark}
 use Rattle.or_turn.proofs.Blocks.{length_marks}
 use Rattle.or_board.specs.Works.{Starts, HasFrom}
