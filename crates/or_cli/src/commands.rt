@@ -2,13 +2,18 @@
 ghost use Rattle.std.specs.Prelude.{◌≡◌, ◌≢◌, ◌↔◌, ◌⊎◌, ℕ, None, IfSome};
 ghost use Rattle.or_command_line.specs.Words.{texts};
 ghost use Rattle.or_words.specs.Settings.{Fits};
-ghost use Rattle.or_command_line.specs.Names.{run_names, AreWritten};
-ghost use Rattle.or_cli.specs.Top.{top_command, IsUsage, RunEnds, RunComplete, CommandEnds, IsComplete};
+ghost use Rattle.or_command_line.specs.Names.{run_names, recorded_names, AreWritten, AreRecorded, IsReport};
+ghost use Rattle.or_command.specs.Outcomes.{LeavesAll};
+ghost use Rattle.or_command.specs.Answered.{Answers, AnswersBy, IsDecided, IsDecidedBy};
+ghost use Rattle.or_command_replay.specs.Replay.{replay_loads, RecordedVerdict, ReplayWrites};
+ghost use Rattle.or_cli.specs.Run.{run_loads, run_check, RunWrites};
+ghost use Rattle.or_cli.specs.Top.{top_command, IsUsage, CommandEnds, IsComplete};
 
 use crate::run::run;
 use or_board::Gate;
 use or_command::{conclude, say_usage};
-use or_command_line::{Command, Run, parse};
+use or_command_line::{Command, Recorded, Run, parse};
+use or_command_replay::replay;
 use or_host::Host;
 use std::alloc::Global;
 use std::sync::Wait;
@@ -24,16 +29,37 @@ fn run_command<R: Threads + Wait + Sync, H: Host, G: Gate + Sync>(
 ) -> u8
     requires names { AreWritten (run_names words.now) }
     requires fits { Fits words.now.config }
-    ensures ends { RunEnds (run_names words.now) words.now.config result (H.state host.old) (H.state host.new) }
-    ensures complete { RunComplete (run_names words.now) words.now.config result (H.state host.old) (H.state host.new) }
+    ensures ends { Answers (run_loads (run_names words.now)) (run_check (run_names words.now) words.now.config) (RunWrites (run_names words.now) words.now.config) LeavesAll
+        result (H.state host.old) (H.state host.new) }
+    ensures complete { IsDecided (run_loads (run_names words.now)) (run_check (run_names words.now) words.now.config) (RunWrites (run_names words.now) words.now.config) LeavesAll
+        result (H.state host.old) (H.state host.new) }
     ensures command { result ≢ 2 }
 {
     let outcome = run(rt, alloc, words, host, gate);
     conclude(host, outcome)
 }
 
+// Replays a recorded run, and says how that ended.
+fn replay_command<H: Host>(
+    alloc: Global,
+    names: &Recorded<'_>,
+    report: &str,
+    host: &mut H,
+) -> u8
+    requires names { AreRecorded (recorded_names names.now) }
+    requires report { IsReport (recorded_names names.now) report.now }
+    ensures ends { AnswersBy (replay_loads (recorded_names names.now)) (RecordedVerdict (recorded_names names.now)) (ReplayWrites (recorded_names names.now) report.now) LeavesAll
+        result (H.state host.old) (H.state host.new) }
+    ensures complete { IsDecidedBy (replay_loads (recorded_names names.now)) (RecordedVerdict (recorded_names names.now)) (ReplayWrites (recorded_names names.now) report.now) LeavesAll
+        result (H.state host.old) (H.state host.new) }
+    ensures command { result ≢ 2 }
+{
+    let outcome = replay(alloc, names, report, host);
+    conclude(host, outcome)
+}
+
 /// Does what the words ask of the outside, and answers the status: 0 where all was done, 2 where the words are no command,
-/// 3 where the image has a fault, 5 where a file was not read, 6 where an output was not written, 7 for want of memory,
+/// 3 where the image has a fault, 4 where the recording is refused, 5 where a file was not read, 6 where an output was not written, 7 for want of memory,
 /// 8 where a file is too long. The line of a status other than 0 is said.
 pub fn top<R: Threads + Wait + Sync, H: Host, G: Gate + Sync>(
     rt: &R,
@@ -49,6 +75,7 @@ pub fn top<R: Threads + Wait + Sync, H: Host, G: Gate + Sync>(
 {
     match parse(words) {
         Some(Command::Run(words)) => run_command(rt, alloc, &words, host, gate),
+        Some(Command::Replay(names, report)) => replay_command(alloc, &names, report, host),
         _ => {
             say_usage(host);
             2
