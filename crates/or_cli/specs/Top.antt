@@ -1,19 +1,25 @@
 -- What the top call says of each command.
-use Rattle.std.specs.Prelude.{◌≡◌, ◌×◌, ℕ, List, Bool, true, false, Option, Some, None, if◌then◌else◌}
+use Rattle.std.specs.Prelude.{◌≡◌, ℕ, List, Bool, true, false, Option, Some, None, if◌then◌else◌}
 use Rattle.or_host.specs.HostState.{HostState}
 use Rattle.or_command_line.specs.Command.{Shown, command_of}
-use Rattle.or_command_line.specs.Command.Shown.{run, replay}
+use Rattle.or_command_line.specs.Command.Shown.{run, replay, asm, dis, gen}
 use Rattle.or_command.specs.Lines.{usage_line}
 use Rattle.or_command.specs.Said.{SaidLine}
 use Rattle.or_command.specs.Outcomes.{LeavesAll}
 use Rattle.or_command.specs.Answered.{Answers, AnswersBy, IsDecided, IsDecidedBy}
 use Rattle.or_command_replay.specs.Replay.{replay_loads, RecordedVerdict, ReplayWrites}
+use Rattle.or_command_source.specs.Assembly.{asm_loads, asm_check, AsmWrites}
+use Rattle.or_command_source.specs.Listing.{dis_loads, dis_check, DisWrites, DisLacks}
+use Rattle.or_command_source.specs.Generation.{gen_loads, gen_check, GenWrites}
 use Rattle.or_cli.specs.Run.{run_loads, run_check, RunWrites}
 
 -- the commands that the top call does
 abbrev pub is_done : Shown → Bool
 is_done (run names config) = true
 is_done (replay files report) = true
+is_done (asm source image) = true
+is_done (dis image) = true
+is_done (gen workload source) = true
 is_done _ = false
 
 abbrev pub done_command : Option Shown → Option Shown
@@ -33,10 +39,16 @@ pub record IsUsage (old new : HostState) : Type 0 where
 abbrev pub CommandEnds : Shown → ℕ → HostState → HostState → Type 0
 CommandEnds (run names config) status old new = Answers (run_loads names) (run_check names config) (RunWrites names config) LeavesAll status old new
 CommandEnds (replay files report) status old new = AnswersBy (replay_loads files) (RecordedVerdict files) (ReplayWrites files report) LeavesAll status old new
+CommandEnds (asm source image) status old new = Answers (asm_loads source) (asm_check source) (AsmWrites image) LeavesAll status old new
+CommandEnds (dis image) status old new = Answers (dis_loads image) (dis_check image) DisWrites (DisLacks image) status old new
+CommandEnds (gen workload source) status old new = Answers gen_loads gen_check (GenWrites workload source) LeavesAll status old new
 CommandEnds _ status old new = ⊥
 
 -- where no fault came, the files decide the status, or memory ran out
 abbrev pub IsComplete : Shown → ℕ → HostState → HostState → Type 0
 IsComplete (run names config) status old new = IsDecided (run_loads names) (run_check names config) (RunWrites names config) LeavesAll status old new
 IsComplete (replay files report) status old new = IsDecidedBy (replay_loads files) (RecordedVerdict files) (ReplayWrites files report) LeavesAll status old new
+IsComplete (asm source image) status old new = IsDecided (asm_loads source) (asm_check source) (AsmWrites image) LeavesAll status old new
+IsComplete (dis image) status old new = IsDecided (dis_loads image) (dis_check image) DisWrites (DisLacks image) status old new
+IsComplete (gen workload source) status old new = IsDecided gen_loads gen_check (GenWrites workload source) LeavesAll status old new
 IsComplete _ status old new = ⊥

@@ -14,6 +14,7 @@ use or_board::Gate;
 use or_command::{conclude, say_usage};
 use or_command_line::{Command, Recorded, Run, parse};
 use or_command_replay::replay;
+use or_command_source::{asm, dis, generate};
 use or_host::Host;
 use std::alloc::Global;
 use std::sync::Wait;
@@ -40,12 +41,7 @@ fn run_command<R: Threads + Wait + Sync, H: Host, G: Gate + Sync>(
 }
 
 // Replays a recorded run, and says how that ended.
-fn replay_command<H: Host>(
-    alloc: Global,
-    names: &Recorded<'_>,
-    report: &str,
-    host: &mut H,
-) -> u8
+fn replay_command<H: Host>(alloc: Global, names: &Recorded<'_>, report: &str, host: &mut H) -> u8
     requires names { AreRecorded (recorded_names names.now) }
     requires report { IsReport (recorded_names names.now) report.now }
     ensures ends { AnswersBy (replay_loads (recorded_names names.now)) (RecordedVerdict (recorded_names names.now)) (ReplayWrites (recorded_names names.now) report.now) LeavesAll
@@ -75,7 +71,10 @@ pub fn top<R: Threads + Wait + Sync, H: Host, G: Gate + Sync>(
 {
     match parse(words) {
         Some(Command::Run(words)) => run_command(rt, alloc, &words, host, gate),
-        Some(Command::Replay(names, report)) => replay_command(alloc, &names, report, host),
+        Some(Command::Replay { files, report }) => replay_command(alloc, &files, report, host),
+        Some(Command::Asm { source, image }) => asm(alloc, source, image, host),
+        Some(Command::Dis { image }) => dis(alloc, image, host),
+        Some(Command::Gen { workload, source }) => generate(alloc, &workload, source, host),
         _ => {
             say_usage(host);
             2
