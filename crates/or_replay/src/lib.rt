@@ -3,6 +3,7 @@
 
 mod board;
 mod opening;
+mod readers;
 mod reporting;
 mod rounds;
 

@@ -2,3 +2,4 @@ pub mod Parts
 pub mod Operands
 pub mod Command
 pub mod Script
+pub mod Last
