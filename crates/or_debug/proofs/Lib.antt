@@ -4,3 +4,4 @@ pub mod Seen
 pub mod Following
 pub mod Results
 pub mod Going
+pub mod Sessions

@@ -91,7 +91,7 @@ followed start turns old new before later made old_cores cores new_cores old_bus
           ∙ ap (λ (m : MadeTurn). before ++ (flat_map (break_line m) old.breaks.items ++ flat_map (seen_line m.turn now.world.ram) old.watches.items)) is.made_is
           ∙ ap (λ l. before ++ (flat_map (break_line (turn_made start turns n)) old.breaks.items ++ l))
           (seen_hits (n + 1) first_ram now.world.ram old.watches.items stands.watches
-            ∙ ap (λ ram. flat_map (watch_line (n + 1) first_ram ram) (addresses old.watches.items)) (sym (ram_behind start turns (n + 1) cores bus board)));
+          ∙ ap (λ ram. flat_map (watch_line (n + 1) first_ram ram) (addresses old.watches.items)) (sym (ram_behind start turns (n + 1) cores bus board)));
     }
 
 -- so many turns were made without stops

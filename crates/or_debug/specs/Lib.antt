@@ -3,3 +3,4 @@ pub mod Hits
 pub mod Shown
 pub mod Session
 pub mod Standing
+pub mod Answers

@@ -152,12 +152,7 @@ impl Debugger {
     }
 
     // Follows turns until one hits something or none is left.
-    fn go(
-        &mut self,
-        board: &mut Board,
-        turns: &[u8],
-        text: &mut Vec<u8>,
-    ) -> Result<(), AllocError>
+    fn go(&mut self, board: &mut Board, turns: &[u8], text: &mut Vec<u8>) -> Result<(), AllocError>
         requires { text.old.items ≡ [] }
         ensures reaches { (start : BoardModel) → CanFollow start turns.now → Reaches start turns.now self.old.turn self.old.last board.old.cores board.old.bus
             → Reaches start turns.now self.new.turn self.new.last board.new.cores board.new.bus }

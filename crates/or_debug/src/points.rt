@@ -25,11 +25,7 @@ pub struct Watchpoint {
     pub word: Option<u32>,
 }
 
-fn append_break(
-    point: Breakpoint,
-    made: MadeTurn,
-    text: &mut Vec<u8>,
-) -> Result<(), AllocError>
+fn append_break(point: Breakpoint, made: MadeTurn, text: &mut Vec<u8>) -> Result<(), AllocError>
     ensures { OnOk result (text.new.items ≡ text.old.items ++ break_line made point) }
 {
     if u32::from(made.core) != point.core || made.pc != point.pc {

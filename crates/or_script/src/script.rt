@@ -1,6 +1,8 @@
 //! A script: its commands, or the fault of its first faulty line.
 ghost use Rattle.std.specs.Prelude.{◌≡◌, ◌≤◌, ◌⊎◌, length, Ok, Some, IfOk, MatchResult};
 ghost use Rattle.or_script.specs.declared.fault.ScriptFault.TheVariants.{NoMemory};
+ghost use Rattle.std.specs.List.{All};
+ghost use Rattle.or_script.specs.Last.{HasFewTurns};
 ghost use Rattle.or_script.specs.Script.{points_after, AreFew, with_room, command_at, script_of, fault_at, fault_of, IsChecked};
 
 use crate::command::{Command, LineFault, read_line};
@@ -117,8 +119,9 @@ pub fn check(config: &Config, script: &[u8]) -> Result<(), ScriptFault>
 #[tactic(auto, using(crate::proofs::Lines::lines), unfolding(crate::specs::Script::script_of))]
 pub fn commands(alloc: Global, config: &Config, script: &[u8]) -> Result<Vec<Command>, ScriptFault>
     requires limit { length script.now ≤ 1048576 }
-    ensures { MatchResult result (λ commands. script_of config.now script.now ≡ Ok commands.items)
+    ensures script { MatchResult result (λ commands. script_of config.now script.now ≡ Ok commands.items)
         (λ fault. (fault ≡ NoMemory) ⊎ (fault_of (script_of config.now script.now) ≡ Some fault)) }
+    ensures few { IfOk result (λ commands. All HasFewTurns commands.items) }
 {
     let mut commands = Vec::new(alloc);
     let mut rest = Some(script);

@@ -1,6 +1,7 @@
-use Rattle.std.proofs.Common.{◌≡◌, ◌∙◌, ◌+◌, sym, ap, subst, arith, rules}
+use Rattle.std.proofs.Common.{◌≡◌, ◌∙◌, ◌+◌, Ok, append-nil, sym, ap, subst, arith, rules}
 use Rattle.or_script.specs.Parts.{parts_behind, length_behind}
-use Rattle.or_script.specs.Script.{AreFew}
+use Rattle.or_script.specs.Script.{AreFew, script_from, behind}
+use Rattle.or_script.proofs.Few.{few_script}
 use Rattle.or_script.proofs.Lines.{command_later}
 use Rattle.or_script.proofs.script.commands.Goals as goal
 
@@ -14,3 +15,9 @@ loop-rest-preserved c =
       few = subst AreFew (sym c.add_point-points.ensures) (c.in-Ok.ensures.few c.loop-rest.invariant.few);
       small = omega (arith, c.cut.ensures.shorter, ap length_behind c.in-Some.is, c.loop-rest.invariant.small);
     }
+
+pub returns-clause-few : goal.returns-clause-few
+returns-clause-few c =
+    few_script c.args.config.now c.args.script.now c.loop-rest.commands.items
+    (sym c.loop-rest.invariant.commands ∙ ap (λ o. behind c.loop-rest.commands.items (script_from c.args.config.now c.loop-rest.at c.loop-rest.points (parts_behind 10 o))) c.in_default.is
+    ∙ ap Ok (append-nil c.loop-rest.commands.items))
