@@ -1,5 +1,5 @@
 -- From the parts of a run to its outcome.
-use Rattle.std.proofs.Common.{◌≡◌, ◌≢◌, ℕ, ◌≤◌, List, [], ◌∷◌, ◌++◌, length, Some, None, Bool, true, false, cond, refl, sym, ap, subst, ◌∙◌, arith, inl, inr}
+use Rattle.std.proofs.Common.{◌≡◌, ◌≢◌, ℕ, ◌≤◌, List, [], ◌∷◌, ◌++◌, length, Some, None, Bool, true, false, cond, sym, ap, subst, ◌∙◌, arith, inl, inr}
 use Rattle.std.specs.Prelude.{Option}
 use Rattle.or_words.specs.Settings.{ram_bytes}
 use Rattle.or_elf.specs.declared.fault.ElfFault.{ElfFault}
@@ -10,16 +10,16 @@ use Rattle.std.specs.Prelude.{codes}
 use Rattle.std.specs.Str.{bytes_eq}
 use Rattle.or_words.specs.declared.Config.{Config}
 use Rattle.or_host.specs.HostState.{HostState}
-use Rattle.or_command_line.specs.Command.{Names, AreWritten}
-use Rattle.or_command.specs.Loads.{Load, AreRead, AllRead, LoadsAll}
-use Rattle.or_command.specs.Writes.{File, IsOther}
+use Rattle.or_command_line.specs.Names.{Names, AreWritten}
+use Rattle.or_command.specs.Loads.{AreRead, AllRead, LoadsAll}
+use Rattle.or_command.specs.Writes.{File}
 use Rattle.or_command.specs.Ends.{FailedCheck, status_of, CommandEnd, done, unread, too_long, refused, unwritten, no_memory}
 use Rattle.or_command.specs.Outcomes.{AreApart, CommandOutcome, LeavesAll}
 use Rattle.or_command.proofs.OutcomesLemmas.{done_outcome, unwritten_outcome, refusal_outcome, memory_outcome}
-use Rattle.or_cli.specs.Loaded.{image_loads, input_loads, image_in, image_check, image_limit, input_limit}
+use Rattle.or_command_image.specs.Loaded.{image_loads, image_in, image_check, input_limit}
 use Rattle.or_cli.specs.Top.{RunComplete}
 use Rattle.or_cli.specs.Run.{run_loads, run_check, RunWrites}
-use Rattle.or_cli.specs.Finish.{FinishEnds, WritesSoFar}
+use Rattle.or_cli.specs.Finish.{FinishEnds}
 
 -- an image that was read is within its limit
 pub image_small : (image input : List ℕ) (files : List (List ℕ)) (state : HostState) → AreRead (image_loads image input) files state → length (image_in files) ≤ 67108864
@@ -33,12 +33,12 @@ input_apart : (dash : Bool) (names : Names) (recording report : List ℕ) → Ar
     → AreApart (cond dash [] (record { name = names.input; limit = input_limit } ∷ [])) (outputs names recording report)
 input_apart true names recording report written = tt
 input_apart false names recording report written =
-    ((λ e. written.schedule_input (sym e), (λ e. written.read.report_input (sym e), tt)), tt)
+    ((λ e. written.schedule_input (sym e), (λ e. written.report.input (sym e), tt)), tt)
 
 -- what a run writes is none of what it loads
 run_apart : (names : Names) (recording report : List ℕ) → AreWritten names → AreApart (run_loads names) (outputs names recording report)
 run_apart names recording report written =
-    ((λ e. written.schedule_image (sym e), (λ e. written.read.report_image (sym e), tt)), input_apart (bytes_eq names.input (codes "-")) names recording report written)
+    ((λ e. written.schedule_image (sym e), (λ e. written.report.image (sym e), tt)), input_apart (bytes_eq names.input (codes "-")) names recording report written)
 
 apart_of : (names : Names) (config : Config) (files : List (List ℕ)) (outs : List File) (console : List ℕ) → AreWritten names → RunWrites names config files outs console
     → AreApart (run_loads names) outs

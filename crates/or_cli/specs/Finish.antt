@@ -1,11 +1,11 @@
 -- How a run on files that were loaded ends.
-use Rattle.std.specs.Prelude.{◌≡◌, ℕ, List, [], ◌∷◌, Some, None}
+use Rattle.std.specs.Prelude.{◌≡◌, ℕ, List, Some, None}
 use Rattle.or_words.specs.declared.Config.{Config}
 use Rattle.or_elf.specs.Fault.{elf_fault}
 use Rattle.or_replay.specs.declared.opening.OpenFault.{OpenFault}
 use Rattle.or_replay.specs.declared.opening.OpenFault.TheVariants.{Elf, NoMemory}
 use Rattle.or_host.specs.HostState.{HostState}
-use Rattle.or_command_line.specs.Command.{Names}
+use Rattle.or_command_line.specs.Names.{Names}
 use Rattle.or_command.specs.Writes.{File, AllWritten, WriteStopped}
 use Rattle.or_command.specs.Ends.{CommandEnd, done, unread, too_long, refused, unwritten, no_memory}
 use Rattle.or_cli.specs.Run.{run_check, RunWrites}

@@ -1,4 +1,3 @@
-pub mod Loaded
 pub mod Run
 pub mod Finish
 pub mod Top

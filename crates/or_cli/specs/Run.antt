@@ -11,11 +11,11 @@ use Rattle.or_replay.specs.Start.{start}
 use Rattle.or_replay.specs.Marks.{marks}
 use Rattle.or_replay.specs.Board.{all_stopped}
 use Rattle.or_replay.specs.Report.{report_text}
-use Rattle.or_command_line.specs.Command.{Names}
+use Rattle.or_command_line.specs.Names.{Names}
 use Rattle.or_command.specs.Loads.{Load}
 use Rattle.or_command.specs.Writes.{File}
 use Rattle.or_command.specs.Ends.{FailedCheck}
-use Rattle.or_cli.specs.Loaded.{image_loads, image_in, input_in, image_check}
+use Rattle.or_command_image.specs.Loaded.{image_loads, image_in, input_in, image_check}
 
 abbrev pub run_loads : Names → List Load
 run_loads names = image_loads names.image names.input

@@ -1,11 +1,9 @@
 //! The top call.
 ghost use Rattle.std.specs.Prelude.{◌≡◌, ◌≢◌, ◌↔◌, ◌⊎◌, ℕ, None, IfSome};
 ghost use Rattle.or_command_line.specs.Words.{texts};
-ghost use Rattle.or_command_line.specs.Command.{command_of};
-ghost use Rattle.or_command_line.specs.Command.Shown.{run};
 ghost use Rattle.or_words.specs.Settings.{Fits};
-ghost use Rattle.or_command_line.specs.Command.{run_names, AreWritten};
-ghost use Rattle.or_cli.specs.Top.{IsUsage, RunEnds, RunComplete, CommandEnds, IsComplete};
+ghost use Rattle.or_command_line.specs.Names.{run_names, AreWritten};
+ghost use Rattle.or_cli.specs.Top.{top_command, IsUsage, RunEnds, RunComplete, CommandEnds, IsComplete};
 
 use crate::run::run;
 use or_command::{conclude, say_usage};
@@ -29,16 +27,16 @@ fn run_command<H: Host>(alloc: Global, words: &Run<'_>, host: &mut H) -> u8
 /// 3 where the image has a fault, 5 where a file was not read, 6 where an output was not written, 7 for want of memory,
 /// 8 where a file is too long. The line of a status other than 0 is said.
 pub fn top<H: Host>(alloc: Global, words: &[String], host: &mut H) -> u8
-    ensures usage { (result ≡ 2) ↔ (command_of (texts words.now) ≡ None) }
-    ensures usage_line { command_of (texts words.now) ≡ None → IsUsage (H.state host.old) (H.state host.new) }
-    ensures command { IfSome (command_of (texts words.now)) (λ command. CommandEnds command result (H.state host.old) (H.state host.new)) }
-    ensures complete { IfSome (command_of (texts words.now)) (λ command. IsComplete command result (H.state host.old) (H.state host.new)) }
+    ensures usage { (result ≡ 2) ↔ (top_command (texts words.now) ≡ None) }
+    ensures usage_line { top_command (texts words.now) ≡ None → IsUsage (H.state host.old) (H.state host.new) }
+    ensures command { IfSome (top_command (texts words.now)) (λ command. CommandEnds command result (H.state host.old) (H.state host.new)) }
+    ensures complete { IfSome (top_command (texts words.now)) (λ command. IsComplete command result (H.state host.old) (H.state host.new)) }
 {
     match parse(words) {
-        None => {
+        Some(Command::Run(words)) => run_command(alloc, &words, host),
+        _ => {
             say_usage(host);
             2
         }
-        Some(Command::Run(words)) => run_command(alloc, &words, host),
     }
 }

@@ -2,7 +2,6 @@
 #![tactic(auto)]
 
 mod commands;
-mod loaded;
 mod run;
 
 pub use commands::top;

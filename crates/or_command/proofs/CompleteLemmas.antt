@@ -9,7 +9,7 @@ use Rattle.or_host.specs.HostState.{HostState}
 use Rattle.or_command.specs.Writes.{File, WriteStopped}
 use Rattle.or_command.specs.Loads.{Load, AreRead}
 use Rattle.or_command.specs.Ends.{FailedCheck, CommandEnd, done, unread, too_long, refused, unwritten, no_memory}
-use Rattle.or_command.specs.Outcomes.{first_long, end_by, AllTold, CommandOutcome, end_of_files}
+use Rattle.or_command.specs.Outcomes.{first_long, end_by, AllTold, OutcomeBy, IsJudged, EndsBy, IsEndOf, Computes, CommandOutcome, end_of_files}
 
 -- what is told is what was read
 told_is : (b : HostState) (name taken file : List ℕ) → IfSome (b.holds name) (λ c. c ≡ Some taken) → b.holds name ≡ Some (Some file) → taken ≡ file
@@ -64,29 +64,33 @@ stops_rose outs console name a b (inl at) = at.cause.rose
 stops_rose outs console name a b (inr at) = at.1.cause.rose
 
 -- Where the host tells all files and no fault came, a command comes to what its files come to, or memory ran out.
-pub complete : (loads : List Load) (verdict : List (List ℕ) → Option FailedCheck) (Writes : List (List ℕ) → List File → List ℕ → Type 0)
+pub complete_by : (loads : List Load) (Verdict : List (List ℕ) → Option FailedCheck → Type 0) (Writes : List (List ℕ) → List File → List ℕ → Type 0)
     (Lacking : HostState → HostState → Type 0) (end : CommandEnd) (a b : HostState) (files : List (List ℕ))
-    → CommandOutcome loads verdict Writes Lacking end a b → AllTold loads files b → (Rose a.faults b.faults → ⊥)
-    → (end ≡ end_of_files loads verdict Writes Lacking files) ⊎ (end ≡ no_memory)
-complete loads verdict Writes Lacking done a b files outcome told sound =
+    → OutcomeBy loads Verdict Writes Lacking end a b → AllTold loads files b → (Rose a.faults b.faults → ⊥)
+    → IsEndOf loads Verdict Writes Lacking files end ⊎ (end ≡ no_memory)
+complete_by loads Verdict Writes Lacking done a b files outcome told sound =
     let same : outcome.files ≡ files = same_read loads outcome.files files b outcome.read told in
     let fits : first_long loads files ≡ None = subst (λ (x : List (List ℕ)). first_long loads x ≡ None) same (none_long loads outcome.files b outcome.read) in
-    let fault : verdict files ≡ None = subst (λ (x : List (List ℕ)). verdict x ≡ None) same outcome.sound in
-    inl (sym (ap (λ l. end_by l (verdict files)) fits ∙ ap (end_by None) fault))
-complete loads verdict Writes Lacking (refused r) a b files outcome told sound =
+    let judged : IsJudged loads Verdict Writes Lacking files done =
+    record { found = None; verdict = subst (λ (x : List (List ℕ)). Verdict x None) same outcome.sound; is_end = refl } in
+    inl (subst (λ (l : Option Load). EndsBy loads Verdict Writes Lacking l files done) (sym fits) judged)
+complete_by loads Verdict Writes Lacking (refused r) a b files outcome told sound =
     let same : outcome.files ≡ files = same_read loads outcome.files files b outcome.read told in
     let fits : first_long loads files ≡ None = subst (λ (x : List (List ℕ)). first_long loads x ≡ None) same (none_long loads outcome.files b outcome.read) in
-    let fault : verdict files ≡ Some r = subst (λ (x : List (List ℕ)). verdict x ≡ Some r) same outcome.found in
-    inl (sym (ap (λ l. end_by l (verdict files)) fits ∙ ap (end_by None) fault))
-complete loads verdict Writes Lacking (too_long name limit) a b files outcome told sound =
+    let judged : IsJudged loads Verdict Writes Lacking files (refused r) =
+    record { found = Some r; verdict = subst (λ (x : List (List ℕ)). Verdict x (Some r)) same outcome.found; is_end = refl } in
+    inl (subst (λ (l : Option Load). EndsBy loads Verdict Writes Lacking l files (refused r)) (sym fits) judged)
+complete_by loads Verdict Writes Lacking (too_long name limit) a b files outcome told sound =
     let told_here : AllTold (outcome.stopped.front ++ outcome.stopped.load ∷ outcome.stopped.rest) files b = subst (λ (ls : List Load). AllTold ls files b) outcome.stopped.order told in
     let first : first_long loads files ≡ Some outcome.stopped.load =
     ap (λ ls. first_long ls files) outcome.stopped.order
     ∙ long_at outcome.stopped.front outcome.stopped.load outcome.stopped.rest outcome.before files outcome.stopped.taken b outcome.stopped.read told_here outcome.stopped.told outcome.stopped.long in
-    inl (sym (ap (λ l. end_by l (verdict files)) first ∙ ap (λ n. too_long n outcome.stopped.load.limit) (sym outcome.stopped.named) ∙ ap (λ n. too_long name n) (sym outcome.stopped.limited)))
-complete loads verdict Writes Lacking (unread name) a b files outcome told sound = absurd (sound outcome.stopped.cause.rose)
-complete loads verdict Writes Lacking (unwritten name) a b files outcome told sound = absurd (sound (stops_rose outcome.outs outcome.console name a b outcome.stopped))
-complete loads verdict Writes Lacking no_memory a b files outcome told sound = inr refl
+    let is : too_long name limit ≡ too_long outcome.stopped.load.name outcome.stopped.load.limit =
+    ap (λ n. too_long n limit) outcome.stopped.named ∙ ap (λ n. too_long outcome.stopped.load.name n) outcome.stopped.limited in
+    inl (subst (λ (l : Option Load). EndsBy loads Verdict Writes Lacking l files (too_long name limit)) (sym first) is)
+complete_by loads Verdict Writes Lacking (unread name) a b files outcome told sound = absurd (sound outcome.stopped.cause.rose)
+complete_by loads Verdict Writes Lacking (unwritten name) a b files outcome told sound = absurd (sound (stops_rose outcome.outs outcome.console name a b outcome.stopped))
+complete_by loads Verdict Writes Lacking no_memory a b files outcome told sound = inr refl
 
 -- each of these files is within its limit
 abbrev pub AllFit : List Load → List (List ℕ) → Type 0
@@ -134,21 +138,44 @@ same_long (f ∷ front) (f' ∷ front') load load' rest rest' (g ∷ before) (h 
 
 -- Where the host tells the files up to one that is the first to hold more than its limit, and no fault came, a command comes
 -- to this file, or memory ran out.
-pub long_file_decides : (loads : List Load) (verdict : List (List ℕ) → Option FailedCheck) (Writes : List (List ℕ) → List File → List ℕ → Type 0)
+pub long_file_decides_by : (loads : List Load) (Verdict : List (List ℕ) → Option FailedCheck → Type 0) (Writes : List (List ℕ) → List File → List ℕ → Type 0)
     (Lacking : HostState → HostState → Type 0) (end : CommandEnd) (a b : HostState) (front : List Load) (load : Load) (rest : List Load) (told : List (List ℕ)) (file : List ℕ)
-    → CommandOutcome loads verdict Writes Lacking end a b → loads ≡ front ++ load ∷ rest → AllTold front told b → AllFit front told
+    → OutcomeBy loads Verdict Writes Lacking end a b → loads ≡ front ++ load ∷ rest → AllTold front told b → AllFit front told
     → b.holds load.name ≡ Some (Some file) → load.limit < length file → (Rose a.faults b.faults → ⊥)
     → (end ≡ too_long load.name load.limit) ⊎ (end ≡ no_memory)
-long_file_decides loads verdict Writes Lacking done a b front load rest told file outcome order tells fits held over sound =
+long_file_decides_by loads Verdict Writes Lacking done a b front load rest told file outcome order tells fits held over sound =
     absurd (long_not_read front load rest outcome.files file b (subst (λ (ls : List Load). AreRead ls outcome.files b) order outcome.read) held over)
-long_file_decides loads verdict Writes Lacking (refused r) a b front load rest told file outcome order tells fits held over sound =
+long_file_decides_by loads Verdict Writes Lacking (refused r) a b front load rest told file outcome order tells fits held over sound =
     absurd (long_not_read front load rest outcome.files file b (subst (λ (ls : List Load). AreRead ls outcome.files b) order outcome.read) held over)
-long_file_decides loads verdict Writes Lacking (too_long name limit) a b front load rest told file outcome order tells fits held over sound =
+long_file_decides_by loads Verdict Writes Lacking (too_long name limit) a b front load rest told file outcome order tells fits held over sound =
     let at : outcome.stopped.load ≡ load = same_long outcome.stopped.front front outcome.stopped.load load outcome.stopped.rest rest outcome.before told outcome.stopped.taken file b
     (sym outcome.stopped.order ∙ order) outcome.stopped.read outcome.stopped.told outcome.stopped.long tells fits held over in
     inl (ap (λ n. too_long n limit) outcome.stopped.named ∙ ap (λ n. too_long outcome.stopped.load.name n) outcome.stopped.limited
     ∙ ap (λ (l : Load). too_long l.name l.limit) at)
-long_file_decides loads verdict Writes Lacking (unread name) a b front load rest told file outcome order tells fits held over sound = absurd (sound outcome.stopped.cause.rose)
-long_file_decides loads verdict Writes Lacking (unwritten name) a b front load rest told file outcome order tells fits held over sound =
+long_file_decides_by loads Verdict Writes Lacking (unread name) a b front load rest told file outcome order tells fits held over sound = absurd (sound outcome.stopped.cause.rose)
+long_file_decides_by loads Verdict Writes Lacking (unwritten name) a b front load rest told file outcome order tells fits held over sound =
     absurd (sound (stops_rose outcome.outs outcome.console name a b outcome.stopped))
-long_file_decides loads verdict Writes Lacking no_memory a b front load rest told file outcome order tells fits held over sound = inr refl
+long_file_decides_by loads Verdict Writes Lacking no_memory a b front load rest told file outcome order tells fits held over sound = inr refl
+
+computed_end : (loads : List Load) (verdict : List (List ℕ) → Option FailedCheck) (Writes : List (List ℕ) → List File → List ℕ → Type 0)
+    (Lacking : HostState → HostState → Type 0) (long : Option Load) (files : List (List ℕ)) (end : CommandEnd)
+    → EndsBy loads (Computes verdict) Writes Lacking long files end → end ≡ end_by long (verdict files)
+computed_end loads verdict Writes Lacking (Some load) files end is = is
+computed_end loads verdict Writes Lacking None files end is = is.is_end ∙ ap (end_by None) (sym is.verdict)
+
+-- the same of a command whose verdict is a function of its files
+module _ (loads : List Load) (verdict : List (List ℕ) → Option FailedCheck) (Writes : List (List ℕ) → List File → List ℕ → Type 0)
+    (Lacking : HostState → HostState → Type 0) where
+  pub complete : (end : CommandEnd) (a b : HostState) (files : List (List ℕ)) → CommandOutcome loads verdict Writes Lacking end a b → AllTold loads files b
+      → (Rose a.faults b.faults → ⊥) → (end ≡ end_of_files loads verdict Writes Lacking files) ⊎ (end ≡ no_memory)
+  complete end a b files outcome told sound = elim (complete_by loads (Computes verdict) Writes Lacking end a b files outcome told sound) [
+    | inl e ↦ inl (computed_end loads verdict Writes Lacking (first_long loads files) files end e)
+    | inr e ↦ inr e
+  ]
+
+  pub long_file_decides : (end : CommandEnd) (a b : HostState) (front : List Load) (load : Load) (rest : List Load) (told : List (List ℕ)) (file : List ℕ)
+      → CommandOutcome loads verdict Writes Lacking end a b → loads ≡ front ++ load ∷ rest → AllTold front told b → AllFit front told
+      → b.holds load.name ≡ Some (Some file) → load.limit < length file → (Rose a.faults b.faults → ⊥)
+      → (end ≡ too_long load.name load.limit) ⊎ (end ≡ no_memory)
+  long_file_decides end a b front load rest told file outcome order tells fits held over sound =
+      long_file_decides_by loads (Computes verdict) Writes Lacking end a b front load rest told file outcome order tells fits held over sound

@@ -14,7 +14,7 @@ use Rattle.or_command.specs.Writes.{File, AllHold, IsOther, AllWritten, WriteSto
 use Rattle.or_command.specs.Loads.{Load, AreRead, AllRead, StopsLoading}
 use Rattle.or_command.specs.Said.{OnlySays, SaidLine}
 use Rattle.or_command.specs.Ends.{FailedCheck, CommandEnd, done, unread, too_long, refused, unwritten, no_memory, line_of}
-use Rattle.or_command.specs.Outcomes.{LeavesAll, AreApart, CommandOutcome, CommandRuns}
+use Rattle.or_command.specs.Outcomes.{LeavesAll, AreApart, OutcomeBy, RunsBy, Computes, CommandOutcome, CommandRuns}
 use Rattle.or_command.proofs.TellsLemmas.{same_then, told_then, same_then_step, step_then_same, same_then_part, part_then_same, rose_after, untouched_then, no_fault_then}
 use Rattle.or_command.proofs.SaysLemmas.{line_after_silence}
 
@@ -85,31 +85,31 @@ end_of_stop (TooLong name limit) = too_long name.now limit
 end_of_stop NoMemory = no_memory
 
 -- a command that stops at its loads
-pub stop_outcome : (loads : List Load) (verdict : List (List ℕ) → Option FailedCheck) (Writes : List (List ℕ) → List File → List ℕ → Type 0)
+pub stop_by : (loads : List Load) (Verdict : List (List ℕ) → Option FailedCheck → Type 0) (Writes : List (List ℕ) → List File → List ℕ → Type 0)
     (Lacking : HostState → HostState → Type 0) (stop : LoadStop) (before : List (List ℕ)) (a b : HostState)
-    → (LeavesAll a b → Lacking a b) → StopsLoading loads stop before a b → CommandOutcome loads verdict Writes Lacking (end_of_stop stop) a b
-stop_outcome loads verdict Writes Lacking (Unread name) before a b lacking stops = record { before = before; stopped = stops }
-stop_outcome loads verdict Writes Lacking (TooLong name limit) before a b lacking stops = record { before = before; stopped = stops }
-stop_outcome loads verdict Writes Lacking NoMemory before a b lacking stops = lacking (record { untouched = stops.untouched; no_fault = stops.no_fault })
+    → (LeavesAll a b → Lacking a b) → StopsLoading loads stop before a b → OutcomeBy loads Verdict Writes Lacking (end_of_stop stop) a b
+stop_by loads Verdict Writes Lacking (Unread name) before a b lacking stops = record { before = before; stopped = stops }
+stop_by loads Verdict Writes Lacking (TooLong name limit) before a b lacking stops = record { before = before; stopped = stops }
+stop_by loads Verdict Writes Lacking NoMemory before a b lacking stops = lacking (record { untouched = stops.untouched; no_fault = stops.no_fault })
 
 -- a command that refuses what it loaded
-pub refusal_outcome : (loads : List Load) (verdict : List (List ℕ) → Option FailedCheck) (Writes : List (List ℕ) → List File → List ℕ → Type 0)
+pub refusal_by : (loads : List Load) (Verdict : List (List ℕ) → Option FailedCheck → Type 0) (Writes : List (List ℕ) → List File → List ℕ → Type 0)
     (Lacking : HostState → HostState → Type 0) (files : List (List ℕ)) (fault : FailedCheck) (a b : HostState)
-    → AllRead loads files a b → verdict files ≡ Some fault → CommandOutcome loads verdict Writes Lacking (refused fault) a b
-refusal_outcome loads verdict Writes Lacking files fault a b all found =
+    → AllRead loads files a b → Verdict files (Some fault) → OutcomeBy loads Verdict Writes Lacking (refused fault) a b
+refusal_by loads Verdict Writes Lacking files fault a b all found =
     record { files = files; read = all.read; found = found; untouched = all.untouched; no_fault = all.no_fault }
 
 -- a command that finds no memory behind its loads
-pub memory_outcome : (loads : List Load) (verdict : List (List ℕ) → Option FailedCheck) (Writes : List (List ℕ) → List File → List ℕ → Type 0)
-    (files : List (List ℕ)) (a b : HostState) → AllRead loads files a b → CommandOutcome loads verdict Writes LeavesAll no_memory a b
-memory_outcome loads verdict Writes files a b all = record { untouched = all.untouched; no_fault = all.no_fault }
+pub memory_by : (loads : List Load) (Verdict : List (List ℕ) → Option FailedCheck → Type 0) (Writes : List (List ℕ) → List File → List ℕ → Type 0)
+    (files : List (List ℕ)) (a b : HostState) → AllRead loads files a b → OutcomeBy loads Verdict Writes LeavesAll no_memory a b
+memory_by loads Verdict Writes files a b all = record { untouched = all.untouched; no_fault = all.no_fault }
 
 -- a command that writes all
-pub done_outcome : (loads : List Load) (verdict : List (List ℕ) → Option FailedCheck) (Writes : List (List ℕ) → List File → List ℕ → Type 0)
+pub done_by : (loads : List Load) (Verdict : List (List ℕ) → Option FailedCheck → Type 0) (Writes : List (List ℕ) → List File → List ℕ → Type 0)
     (Lacking : HostState → HostState → Type 0) (files : List (List ℕ)) (outs : List File) (console : List ℕ) (a b c : HostState)
-    → AreApart loads outs → AllRead loads files a b → verdict files ≡ None → Writes files outs console → AllWritten outs console b c
-    → CommandOutcome loads verdict Writes Lacking done a c
-done_outcome loads verdict Writes Lacking files outs console a b c apart all sound writes out = record {
+    → AreApart loads outs → AllRead loads files a b → Verdict files None → Writes files outs console → AllWritten outs console b c
+    → OutcomeBy loads Verdict Writes Lacking done a c
+done_by loads Verdict Writes Lacking files outs console a b c apart all sound writes out = record {
   files = files;
   read = read_apart loads files outs b c apart out.others all.read;
   sound = sound;
@@ -120,11 +120,11 @@ done_outcome loads verdict Writes Lacking files outs console a b c apart all sou
 }
 
 -- a command whose write fails
-pub unwritten_outcome : (loads : List Load) (verdict : List (List ℕ) → Option FailedCheck) (Writes : List (List ℕ) → List File → List ℕ → Type 0)
+pub unwritten_by : (loads : List Load) (Verdict : List (List ℕ) → Option FailedCheck → Type 0) (Writes : List (List ℕ) → List File → List ℕ → Type 0)
     (Lacking : HostState → HostState → Type 0) (files : List (List ℕ)) (outs : List File) (console name : List ℕ) (a b c : HostState)
-    → AreApart loads outs → AllRead loads files a b → verdict files ≡ None → Writes files outs console → WriteStopped outs console name b c
-    → CommandOutcome loads verdict Writes Lacking (unwritten name) a c
-unwritten_outcome loads verdict Writes Lacking files outs console name a b c apart all sound writes stopped = record {
+    → AreApart loads outs → AllRead loads files a b → Verdict files None → Writes files outs console → WriteStopped outs console name b c
+    → OutcomeBy loads Verdict Writes Lacking (unwritten name) a c
+unwritten_by loads Verdict Writes Lacking files outs console name a b c apart all sound writes stopped = record {
   files = files;
   read = read_apart loads files outs b c apart (stopped_same outs console name b c stopped) all.read;
   sound = sound;
@@ -187,10 +187,10 @@ said_stopped outs console name a b c (inr at) bc = inr (
 )
 
 -- what an outcome says stays true where only something is said
-said_outcome : (loads : List Load) (verdict : List (List ℕ) → Option FailedCheck) (Writes : List (List ℕ) → List File → List ℕ → Type 0)
+said_outcome : (loads : List Load) (Verdict : List (List ℕ) → Option FailedCheck → Type 0) (Writes : List (List ℕ) → List File → List ℕ → Type 0)
     (Lacking : HostState → HostState → Type 0) (end : CommandEnd) (a b c : HostState) → (Lacking a b → Lacking a c)
-    → CommandOutcome loads verdict Writes Lacking end a b → OnlySays b c → CommandOutcome loads verdict Writes Lacking end a c
-said_outcome loads verdict Writes Lacking done a b c lacking outcome bc = record {
+    → OutcomeBy loads Verdict Writes Lacking end a b → OnlySays b c → OutcomeBy loads Verdict Writes Lacking end a c
+said_outcome loads Verdict Writes Lacking done a b c lacking outcome bc = record {
   files = outcome.files;
   read = read_stays loads outcome.files b c bc.names outcome.read;
   sound = outcome.sound;
@@ -199,7 +199,7 @@ said_outcome loads verdict Writes Lacking done a b c lacking outcome bc = record
   writes = outcome.writes;
   out = said_written outcome.outs outcome.console a b c outcome.out bc;
 }
-said_outcome loads verdict Writes Lacking (unread name) a b c lacking outcome bc = record {
+said_outcome loads Verdict Writes Lacking (unread name) a b c lacking outcome bc = record {
   before = outcome.before;
   stopped = record {
     front = outcome.stopped.front;
@@ -212,7 +212,7 @@ said_outcome loads verdict Writes Lacking (unread name) a b c lacking outcome bc
     untouched = said_untouched a b c outcome.stopped.untouched bc;
   };
 }
-said_outcome loads verdict Writes Lacking (too_long name limit) a b c lacking outcome bc = record {
+said_outcome loads Verdict Writes Lacking (too_long name limit) a b c lacking outcome bc = record {
   before = outcome.before;
   stopped = record {
     front = outcome.stopped.front;
@@ -229,14 +229,14 @@ said_outcome loads verdict Writes Lacking (too_long name limit) a b c lacking ou
     no_fault = said_no_fault a b c outcome.stopped.no_fault bc;
   };
 }
-said_outcome loads verdict Writes Lacking (refused fault) a b c lacking outcome bc = record {
+said_outcome loads Verdict Writes Lacking (refused fault) a b c lacking outcome bc = record {
   files = outcome.files;
   read = read_stays loads outcome.files b c bc.names outcome.read;
   found = outcome.found;
   untouched = said_untouched a b c outcome.untouched bc;
   no_fault = said_no_fault a b c outcome.no_fault bc;
 }
-said_outcome loads verdict Writes Lacking (unwritten name) a b c lacking outcome bc = record {
+said_outcome loads Verdict Writes Lacking (unwritten name) a b c lacking outcome bc = record {
   files = outcome.files;
   read = read_stays loads outcome.files b c bc.names outcome.read;
   sound = outcome.sound;
@@ -245,13 +245,42 @@ said_outcome loads verdict Writes Lacking (unwritten name) a b c lacking outcome
   writes = outcome.writes;
   stopped = said_stopped outcome.outs outcome.console name a b c outcome.stopped bc;
 }
-said_outcome loads verdict Writes Lacking no_memory a b c lacking outcome bc = lacking outcome
+said_outcome loads Verdict Writes Lacking no_memory a b c lacking outcome bc = lacking outcome
 
 -- a command's work, which says nothing, and then its line
-pub concluded : (loads : List Load) (verdict : List (List ℕ) → Option FailedCheck) (Writes : List (List ℕ) → List File → List ℕ → Type 0)
+pub concluded_by : (loads : List Load) (Verdict : List (List ℕ) → Option FailedCheck → Type 0) (Writes : List (List ℕ) → List File → List ℕ → Type 0)
     (Lacking : HostState → HostState → Type 0) (end : CommandEnd) (a b c : HostState) → (Lacking a b → Lacking a c)
-    → CommandOutcome loads verdict Writes Lacking end a b → Silent a b → SaidLine (line_of end) b c → OnlySays b c → CommandRuns loads verdict Writes Lacking end a c
-concluded loads verdict Writes Lacking end a b c lacking outcome silent line only = record {
-  outcome = said_outcome loads verdict Writes Lacking end a b c lacking outcome only;
+    → OutcomeBy loads Verdict Writes Lacking end a b → Silent a b → SaidLine (line_of end) b c → OnlySays b c → RunsBy loads Verdict Writes Lacking end a c
+concluded_by loads Verdict Writes Lacking end a b c lacking outcome silent line only = record {
+  outcome = said_outcome loads Verdict Writes Lacking end a b c lacking outcome only;
   said = line_after_silence (line_of end) a b c silent line;
 }
+
+-- the same of a command whose verdict is a function of its files
+module _ (loads : List Load) (verdict : List (List ℕ) → Option FailedCheck) (Writes : List (List ℕ) → List File → List ℕ → Type 0) where
+  pub stop_outcome : (Lacking : HostState → HostState → Type 0) (stop : LoadStop) (before : List (List ℕ)) (a b : HostState)
+      → (LeavesAll a b → Lacking a b) → StopsLoading loads stop before a b → CommandOutcome loads verdict Writes Lacking (end_of_stop stop) a b
+  stop_outcome Lacking stop before a b lacking stops = stop_by loads (Computes verdict) Writes Lacking stop before a b lacking stops
+
+  pub refusal_outcome : (Lacking : HostState → HostState → Type 0) (files : List (List ℕ)) (fault : FailedCheck) (a b : HostState)
+      → AllRead loads files a b → verdict files ≡ Some fault → CommandOutcome loads verdict Writes Lacking (refused fault) a b
+  refusal_outcome Lacking files fault a b all found = refusal_by loads (Computes verdict) Writes Lacking files fault a b all found
+
+  pub memory_outcome : (files : List (List ℕ)) (a b : HostState) → AllRead loads files a b → CommandOutcome loads verdict Writes LeavesAll no_memory a b
+  memory_outcome files a b all = memory_by loads (Computes verdict) Writes files a b all
+
+  pub done_outcome : (Lacking : HostState → HostState → Type 0) (files : List (List ℕ)) (outs : List File) (console : List ℕ) (a b c : HostState)
+      → AreApart loads outs → AllRead loads files a b → verdict files ≡ None → Writes files outs console → AllWritten outs console b c
+      → CommandOutcome loads verdict Writes Lacking done a c
+  done_outcome Lacking files outs console a b c apart all sound writes out =
+      done_by loads (Computes verdict) Writes Lacking files outs console a b c apart all sound writes out
+
+  pub unwritten_outcome : (Lacking : HostState → HostState → Type 0) (files : List (List ℕ)) (outs : List File) (console name : List ℕ) (a b c : HostState)
+      → AreApart loads outs → AllRead loads files a b → verdict files ≡ None → Writes files outs console → WriteStopped outs console name b c
+      → CommandOutcome loads verdict Writes Lacking (unwritten name) a c
+  unwritten_outcome Lacking files outs console name a b c apart all sound writes stopped =
+      unwritten_by loads (Computes verdict) Writes Lacking files outs console name a b c apart all sound writes stopped
+
+  pub concluded : (Lacking : HostState → HostState → Type 0) (end : CommandEnd) (a b c : HostState) → (Lacking a b → Lacking a c)
+      → CommandOutcome loads verdict Writes Lacking end a b → Silent a b → SaidLine (line_of end) b c → OnlySays b c → CommandRuns loads verdict Writes Lacking end a c
+  concluded Lacking end a b c lacking outcome silent line only = concluded_by loads (Computes verdict) Writes Lacking end a b c lacking outcome silent line only

@@ -36,8 +36,8 @@ abbrev pub detail_text : ScheduleDetail → List ℕ
 detail_text (Head line) = codes "head " ++ decimal line
 detail_text (At place) = codes "at " ++ decimal place
 detail_text Short = codes "short"
-detail_text (Image recorded found) = codes "image " ++ digest_text recorded.now ++ codes " " ++ digest_text found.now
-detail_text (Input recorded found) = codes "input " ++ digest_text recorded.now ++ codes " " ++ digest_text found.now
+detail_text (Image digests) = codes "image " ++ digest_text digests.recorded ++ codes " " ++ digest_text digests.found
+detail_text (Input digests) = codes "input " ++ digest_text digests.recorded ++ codes " " ++ digest_text digests.found
 detail_text (TurnStopped turn) = codes "turn " ++ decimal turn ++ codes " stopped"
 detail_text (CoreRunning core) = codes "core " ++ decimal core ++ codes " running"
 detail_text (TurnWrites turn recorded found) = codes "turn " ++ decimal turn ++ codes " writes " ++ decimal recorded ++ codes " " ++ decimal found

@@ -35,15 +35,16 @@ AllTold [] (file ∷ files) state = ⊥
 AllTold (load ∷ loads) [] state = ⊥
 AllTold (load ∷ loads) (file ∷ files) state = (state.holds load.name ≡ Some (Some file)) × AllTold loads files state
 
--- A command is told by four things: the files that it loads, in order; `verdict`, the first check of their bytes that fails;
--- `Writes`, which texts and console it writes of these bytes; and `Lacking`, what it leaves where memory ran out.
-module _ (loads : List Load) (verdict : List (List ℕ) → Option FailedCheck) (Writes : List (List ℕ) → List File → List ℕ → Type 0)
+-- A command is told by four things: the files that it loads, in order; `Verdict`, the first check of their bytes that fails,
+-- or that none does; `Writes`, which texts and console it writes of these bytes; and `Lacking`, what it leaves where memory
+-- ran out.
+module _ (loads : List Load) (Verdict : List (List ℕ) → Option FailedCheck → Type 0) (Writes : List (List ℕ) → List File → List ℕ → Type 0)
     (Lacking : HostState → HostState → Type 0) where
   -- all is written
   pub record Finishes (old new : HostState) : Type 0 where
     pub files : List (List ℕ)
     pub read : AreRead loads files new
-    pub sound : verdict files ≡ None
+    pub sound : Verdict files None
     pub outs : List File
     pub console : List ℕ
     pub writes : Writes files outs console
@@ -53,7 +54,7 @@ module _ (loads : List Load) (verdict : List (List ℕ) → Option FailedCheck) 
   pub record Refuses (fault : FailedCheck) (old new : HostState) : Type 0 where
     pub files : List (List ℕ)
     pub read : AreRead loads files new
-    pub found : verdict files ≡ Some fault
+    pub found : Verdict files (Some fault)
     pub untouched : Untouched old new
     pub no_fault : NoFault old new
 
@@ -61,7 +62,7 @@ module _ (loads : List Load) (verdict : List (List ℕ) → Option FailedCheck) 
   pub record Breaks (name : List ℕ) (old new : HostState) : Type 0 where
     pub files : List (List ℕ)
     pub read : AreRead loads files new
-    pub sound : verdict files ≡ None
+    pub sound : Verdict files None
     pub outs : List File
     pub console : List ℕ
     pub writes : Writes files outs console
@@ -78,19 +79,45 @@ module _ (loads : List Load) (verdict : List (List ℕ) → Option FailedCheck) 
     pub stopped : StopsTooLong loads name limit before old new
 
   -- what stands after a command, by what it came to
-  abbrev pub CommandOutcome : CommandEnd → HostState → HostState → Type 0
-  CommandOutcome done old new = Finishes old new
-  CommandOutcome (unread name) old new = Misses name old new
-  CommandOutcome (too_long name limit) old new = Exceeds name limit old new
-  CommandOutcome (refused fault) old new = Refuses fault old new
-  CommandOutcome (unwritten name) old new = Breaks name old new
-  CommandOutcome no_memory old new = Lacking old new
+  abbrev pub OutcomeBy : CommandEnd → HostState → HostState → Type 0
+  OutcomeBy done old new = Finishes old new
+  OutcomeBy (unread name) old new = Misses name old new
+  OutcomeBy (too_long name limit) old new = Exceeds name limit old new
+  OutcomeBy (refused fault) old new = Refuses fault old new
+  OutcomeBy (unwritten name) old new = Breaks name old new
+  OutcomeBy no_memory old new = Lacking old new
 
   -- the same, with the line that was said of it
-  pub record CommandRuns (end : CommandEnd) (old new : HostState) : Type 0 where
-    pub outcome : CommandOutcome end old new
+  pub record RunsBy (end : CommandEnd) (old new : HostState) : Type 0 where
+    pub outcome : OutcomeBy end old new
     pub said : SaidLine (line_of end) old new
 
+  -- these files are told and fit: the check that fails decides, or none does
+  pub record IsJudged (files : List (List ℕ)) (end : CommandEnd) : Type 0 where
+    pub found : Option FailedCheck
+    pub verdict : Verdict files found
+    pub is_end : end ≡ end_by None found
+
+  abbrev pub EndsBy : Option Load → List (List ℕ) → CommandEnd → Type 0
+  EndsBy (Some load) files end = end ≡ too_long load.name load.limit
+  EndsBy None files end = IsJudged files end
+
   -- what the files come to by themselves
+  abbrev pub IsEndOf : List (List ℕ) → CommandEnd → Type 0
+  IsEndOf files end = EndsBy (first_long loads files) files end
+
+-- a verdict that is a function of the files
+abbrev pub Computes : (List (List ℕ) → Option FailedCheck) → List (List ℕ) → Option FailedCheck → Type 0
+Computes verdict files found = verdict files ≡ found
+
+-- the same of a command with such a verdict
+module _ (loads : List Load) (verdict : List (List ℕ) → Option FailedCheck) (Writes : List (List ℕ) → List File → List ℕ → Type 0)
+    (Lacking : HostState → HostState → Type 0) where
+  abbrev pub CommandOutcome : CommandEnd → HostState → HostState → Type 0
+  CommandOutcome end old new = OutcomeBy loads (Computes verdict) Writes Lacking end old new
+
+  abbrev pub CommandRuns : CommandEnd → HostState → HostState → Type 0
+  CommandRuns end old new = RunsBy loads (Computes verdict) Writes Lacking end old new
+
   abbrev pub end_of_files : List (List ℕ) → CommandEnd
   end_of_files files = end_by (first_long loads files) (verdict files)

@@ -129,8 +129,8 @@ fn say_fault<H: Host>(
 }
 
 // Says why a recording is refused.
-fn say_schedule<H: Host>(host: &mut H, name: &str, detail: ScheduleDetail<'_>) -> Result<(), Failed>
-    ensures { Said result (schedule_line name.now detail.entry) (H.state host.old) (H.state host.new) }
+fn say_schedule<H: Host>(host: &mut H, name: &str, detail: ScheduleDetail) -> Result<(), Failed>
+    ensures { Said result (schedule_line name.now detail) (H.state host.old) (H.state host.new) }
 {
     let so_far = then_say(host, Ok(()), b"or1k: schedule ");
     let so_far = then_say(host, so_far, name.as_bytes());

@@ -11,7 +11,7 @@ mod writing;
 pub use ending::{conclude, say_usage};
 pub use loading::{Input, LoadStop, load_files};
 pub use outcome::Outcome;
-pub use refusal::{Refusal, ScheduleDetail};
+pub use refusal::{Digests, Refusal, ScheduleDetail};
 pub use writing::{Output, write_files, write_outputs};
 
 #[cfg(test)]

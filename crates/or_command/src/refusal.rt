@@ -1,8 +1,15 @@
 // Why a command refuses what it loaded.
 
+/// Two digests that differ: the one in the recording, and the one that was found.
+#[derive(Clone, Copy)]
+pub struct Digests {
+    pub recorded: [u8; 32],
+    pub found: [u8; 32],
+}
+
 /// Why a recording is refused. Where two values stand, `recorded` is the one in the recording, and `found` the one that was found.
 #[derive(Clone, Copy)]
-pub enum ScheduleDetail<'a> {
+pub enum ScheduleDetail {
     /// A line of the head, from 1, is not of the form.
     Head {
         line: u32,
@@ -14,15 +21,9 @@ pub enum ScheduleDetail<'a> {
     /// The recording ends too early.
     Short,
     /// The digest of the image differs.
-    Image {
-        recorded: &'a [u8],
-        found: &'a [u8],
-    },
+    Image(Digests),
     /// The digest of the input differs.
-    Input {
-        recorded: &'a [u8],
-        found: &'a [u8],
-    },
+    Input(Digests),
     /// A turn, from 0, names a core that has stopped.
     TurnStopped {
         turn: u64,
@@ -63,7 +64,7 @@ pub enum Refusal<'a> {
     /// The recording is refused: status 4.
     Schedule {
         name: &'a str,
-        detail: ScheduleDetail<'a>,
+        detail: ScheduleDetail,
     },
     /// The script has this fault in this line, from 1: status 10.
     Script {

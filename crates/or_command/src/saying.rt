@@ -6,7 +6,7 @@ ghost use Rattle.or_host.specs.HostState.{HostState};
 ghost use Rattle.or_command.specs.Said.{Said};
 ghost use Rattle.or_command.specs.Lines.{detail_text};
 
-use crate::ScheduleDetail;
+use crate::{Digests, ScheduleDetail};
 use or_host::{Failed, Host};
 
 // Says a piece of a line, where what stands before it was said.
@@ -74,16 +74,15 @@ fn then_digests<H: Host>(
     host: &mut H,
     so_far: Result<(), Failed>,
     word: &[u8],
-    recorded: &[u8],
-    found: &[u8],
+    digests: &Digests,
 ) -> Result<(), Failed>
     ensures { (start : HostState) (line : List ℕ) → Said so_far line start (H.state host.old)
-        → Said result (line ++ (word.now ++ digest_text recorded.now ++ codes " " ++ digest_text found.now)) start (H.state host.new) }
+        → Said result (line ++ (word.now ++ digest_text digests.now.recorded ++ codes " " ++ digest_text digests.now.found)) start (H.state host.new) }
 {
     let so_far = then_say(host, so_far, word);
-    let so_far = then_digest(host, so_far, recorded);
+    let so_far = then_digest(host, so_far, &digests.recorded);
     let so_far = then_say(host, so_far, b" ");
-    then_digest(host, so_far, found)
+    then_digest(host, so_far, &digests.found)
 }
 
 // Says a word and a number.
@@ -138,21 +137,17 @@ fn then_counts<H: Host>(
 pub(crate) fn then_detail<H: Host>(
     host: &mut H,
     so_far: Result<(), Failed>,
-    detail: ScheduleDetail<'_>,
+    detail: ScheduleDetail,
 ) -> Result<(), Failed>
     ensures { (start : HostState) (line : List ℕ) → Said so_far line start (H.state host.old)
-        → Said result (line ++ detail_text detail.entry) start (H.state host.new) }
+        → Said result (line ++ detail_text detail) start (H.state host.new) }
 {
     match detail {
         ScheduleDetail::Head { line } => { then_numbered(host, so_far, b"head ", u64::from(line)) }
         ScheduleDetail::At { place } => then_numbered(host, so_far, b"at ", place),
         ScheduleDetail::Short => then_say(host, so_far, b"short"),
-        ScheduleDetail::Image { recorded, found } => {
-            then_digests(host, so_far, b"image ", recorded, found)
-        }
-        ScheduleDetail::Input { recorded, found } => {
-            then_digests(host, so_far, b"input ", recorded, found)
-        }
+        ScheduleDetail::Image(digests) => then_digests(host, so_far, b"image ", &digests),
+        ScheduleDetail::Input(digests) => then_digests(host, so_far, b"input ", &digests),
         ScheduleDetail::TurnStopped { turn } => {
             then_between(host, so_far, b"turn ", turn, b" stopped")
         }

@@ -1,8 +1,8 @@
 ghost use Rattle.or_host.specs.Calls.{IsName};
 
 use crate::{
-    Input, LoadStop, Outcome, Output, Refusal, ScheduleDetail, conclude, load_files, say_usage,
-    write_outputs,
+    Digests, Input, LoadStop, Outcome, Output, Refusal, ScheduleDetail, conclude, load_files,
+    say_usage, write_outputs,
 };
 use or_host::MemHost;
 use std::alloc::{AllocError, Global};
@@ -17,7 +17,7 @@ fn ended(alloc: Global, outcome: Outcome<'_>) -> Result<(u8, Vec<u8>), AllocErro
 }
 
 // The same of a refused recording.
-fn refused(alloc: Global, detail: ScheduleDetail<'_>) -> Result<(u8, Vec<u8>), AllocError> {
+fn refused(alloc: Global, detail: ScheduleDetail) -> Result<(u8, Vec<u8>), AllocError> {
     ended(
         alloc,
         Outcome::Refused(Refusal::Schedule { name: "s", detail }),
@@ -92,12 +92,15 @@ fn refused_recordings_are_said(rt: HostRuntime) -> Result<(), Fail> {
     };
     let (_, line) = refused(alloc, detail)?;
     assert!(rt; line.as_slice() == b"or1k: schedule s turn 65536 console 1 0\n".as_slice());
-    let detail = ScheduleDetail::Input {
-        recorded: &[0xE3, 0xB0],
-        found: &[0x0A, 0xFF],
-    };
+    let detail = ScheduleDetail::Input(Digests {
+        recorded: [0xE3; 32],
+        found: [0x0A; 32],
+    });
     let (_, line) = refused(alloc, detail)?;
-    assert!(rt; line.as_slice() == b"or1k: schedule s input e3b0 0aff\n".as_slice());
+    assert!(rt;
+        line.as_slice()
+            == b"or1k: schedule s input e3e3e3e3e3e3e3e3e3e3e3e3e3e3e3e3e3e3e3e3e3e3e3e3e3e3e3e3e3e3e3e3 0a0a0a0a0a0a0a0a0a0a0a0a0a0a0a0a0a0a0a0a0a0a0a0a0a0a0a0a0a0a0a0a\n".as_slice()
+    );
     Ok(())
 }
 

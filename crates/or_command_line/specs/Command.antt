@@ -1,76 +1,159 @@
 -- The commands and their words.
-use Rattle.std.specs.Prelude.{ℕ, List, [], ◌∷◌, Bool, false, ◌≡◌, ◌≢◌, ◌&&◌, if◌then◌else◌, Option, Some, None, codes}
+use Rattle.std.specs.Prelude.{ℕ, List, [], ◌∷◌, ◌&&◌, if◌then◌else◌, Option, Some, None, codes}
 use Rattle.std.specs.Str.{bytes_eq}
 use Rattle.or_words.specs.declared.Config.{Config}
 use Rattle.or_words.specs.Settings.{Fits}
-use Rattle.or_command_line.specs.declared.Run.{Run}
+use Rattle.or_command_line.specs.declared.Workload.{Workload}
 use Rattle.or_command_line.specs.declared.Command.{Command}
-use Rattle.or_command_line.specs.declared.Command.TheVariants.{Run as IsRun}
-use Rattle.or_command_line.specs.Words.{is_name, is_input, differ, IsFileName}
-use Rattle.or_command_line.specs.Settings.{config_of}
-
--- the files of a run, with `-` for no input
-pub record Names : Type 0 where
-  pub image : List ℕ
-  pub input : List ℕ
-  pub schedule : List ℕ
-  pub report : List ℕ
+use Rattle.or_command_line.specs.declared.Command.TheVariants.{Run as IsRun, Replay as IsReplay, Asm as IsAsm, Dis as IsDis, Debug as IsDebug, Gen as IsGen, Bench as IsBench, Back as IsBack, Race as IsRace, Prof as IsProf}
+use Rattle.or_command_line.specs.Words.{is_name, differ, IsFileName}
+use Rattle.or_command_line.specs.Names.{Names, Recorded, recorded_names, run_names, are_recorded, is_report, are_run_names, AreRecorded, IsReport, AreWritten, IsAssembly}
+use Rattle.or_command_line.specs.Settings.{config_of, every_of, FitsEvery}
+use Rattle.or_command_line.specs.Workloads.{workload_of, FitsWorkload}
 
 -- a command as contracts see it
 pub data Shown : Type 0 where
   run : Names → Config → Shown
+  replay : Recorded → List ℕ → Shown
+  asm : List ℕ → List ℕ → Shown
+  dis : List ℕ → Shown
+  debug : Recorded → List ℕ → Shown
+  gen : Workload → List ℕ → Shown
+  bench : Workload → List ℕ → Shown
+  back : Recorded → List ℕ → ℕ → Shown
+  race : Recorded → Shown
+  prof : Recorded → Shown
 
--- all words are names, and each one that a run writes differs from each other one
-abbrev pub are_run_names : Names → Bool
-are_run_names names =
-    (is_name names.image && (is_input names.input && (is_name names.schedule && is_name names.report)))
-    && ((differ names.schedule names.image && differ names.schedule names.input)
-    && ((differ names.report names.image && differ names.report names.input) && differ names.report names.schedule))
-
-abbrev pub run_with : Names → Option Config → Option (Names × Config)
+abbrev pub run_with : Names → Option Config → Option Shown
 run_with names None = None
-run_with names (Some config) = Some (names, config)
+run_with names (Some config) = Some (run names config)
 
-abbrev pub run_where : Names → List (List ℕ) → Option (Names × Config)
+-- `IMAGE INPUT SCHED REPORT [--cores N] [--budget N] [--ram N] [--pic latched]`
+abbrev pub run_where : Names → List (List ℕ) → Option Shown
 run_where names options = if are_run_names names then run_with names (config_of options) else None
 
--- `IMAGE INPUT SCHED REPORT` and options
-abbrev pub run_of : List (List ℕ) → Option (Names × Config)
+unfoldable pub run_of : List (List ℕ) → Option Shown
 run_of (image ∷ input ∷ schedule ∷ report ∷ options) = run_where (record { image = image; input = input; schedule = schedule; report = report }) options
 run_of _ = None
 
-abbrev pub as_run : Option (Names × Config) → Option Shown
-as_run None = None
-as_run (Some found) = Some (run found.0 found.1)
+-- `IMAGE INPUT SCHED REPORT`
+abbrev pub replay_where : Recorded → List ℕ → Option Shown
+replay_where files report = if are_recorded files && is_report files report then Some (replay files report) else None
 
--- the command that the words are, or none
+unfoldable pub replay_of : List (List ℕ) → Option Shown
+replay_of (image ∷ input ∷ schedule ∷ report ∷ []) = replay_where (record { image = image; input = input; schedule = schedule }) report
+replay_of _ = None
+
+-- `SRC IMAGE`
+unfoldable pub asm_of : List (List ℕ) → Option Shown
+asm_of (source ∷ image ∷ []) = if (is_name source && is_name image) && differ image source then Some (asm source image) else None
+asm_of _ = None
+
+-- `IMAGE`
+unfoldable pub dis_of : List (List ℕ) → Option Shown
+dis_of (image ∷ []) = if is_name image then Some (dis image) else None
+dis_of _ = None
+
+-- `IMAGE INPUT SCHED SCRIPT`
+abbrev pub debug_where : Recorded → List ℕ → Option Shown
+debug_where files script = if are_recorded files && is_name script then Some (debug files script) else None
+
+unfoldable pub debug_of : List (List ℕ) → Option Shown
+debug_of (image ∷ input ∷ schedule ∷ script ∷ []) = debug_where (record { image = image; input = input; schedule = schedule }) script
+debug_of _ = None
+
+-- `IMAGE INPUT SCHED SCRIPT [--every N]`
+abbrev pub back_with : Recorded → List ℕ → Option ℕ → Option Shown
+back_with files script None = None
+back_with files script (Some every) = Some (back files script every)
+
+abbrev pub back_where : Recorded → List ℕ → List (List ℕ) → Option Shown
+back_where files script options = if are_recorded files && is_name script then back_with files script (every_of options) else None
+
+unfoldable pub back_of : List (List ℕ) → Option Shown
+back_of (image ∷ input ∷ schedule ∷ script ∷ options) = back_where (record { image = image; input = input; schedule = schedule }) script options
+back_of _ = None
+
+-- `IMAGE INPUT SCHED`
+abbrev pub recorded_where : Recorded → Option Recorded
+recorded_where files = if are_recorded files then Some files else None
+
+unfoldable pub recorded_of : List (List ℕ) → Option Recorded
+recorded_of (image ∷ input ∷ schedule ∷ []) = recorded_where (record { image = image; input = input; schedule = schedule })
+recorded_of _ = None
+
+abbrev pub as_race : Option Recorded → Option Shown
+as_race None = None
+as_race (Some files) = Some (race files)
+
+abbrev pub as_prof : Option Recorded → Option Shown
+as_prof None = None
+as_prof (Some files) = Some (prof files)
+
+-- `SEED CORES ROUNDS` and a name
+pub record Made : Type 0 where
+  pub workload : Workload
+  pub name : List ℕ
+
+abbrev pub made_with : List ℕ → Option Workload → Option Made
+made_with name None = None
+made_with name (Some workload) = if is_name name then Some (record { workload = workload; name = name }) else None
+
+unfoldable pub made_of : List (List ℕ) → Option Made
+made_of (seed ∷ cores ∷ rounds ∷ name ∷ []) = made_with name (workload_of seed cores rounds)
+made_of _ = None
+
+abbrev pub as_gen : Option Made → Option Shown
+as_gen None = None
+as_gen (Some made) = Some (gen made.workload made.name)
+
+abbrev pub as_bench : Option Made → Option Shown
+as_bench None = None
+as_bench (Some made) = Some (bench made.workload made.name)
+
+-- the commands that run, write or read programs
+abbrev pub program_command : List ℕ → List (List ℕ) → Option Shown
+program_command verb words =
+    if bytes_eq verb (codes "run") then run_of words else
+    if bytes_eq verb (codes "bench") then as_bench (made_of words) else
+    if bytes_eq verb (codes "gen") then as_gen (made_of words) else
+    if bytes_eq verb (codes "asm") then asm_of words else
+    if bytes_eq verb (codes "dis") then dis_of words else
+    None
+
+-- the command that the words are, or none: one on a recorded run, or one on a program
 unfoldable pub command_of : List (List ℕ) → Option Shown
 command_of [] = None
 command_of (verb ∷ words) =
-    if bytes_eq verb (codes "run") then as_run (run_of words) else
-    None
+    if bytes_eq verb (codes "replay") then replay_of words else
+    if bytes_eq verb (codes "debug") then debug_of words else
+    if bytes_eq verb (codes "back") then back_of words else
+    if bytes_eq verb (codes "race") then as_race (recorded_of words) else
+    if bytes_eq verb (codes "prof") then as_prof (recorded_of words) else
+    program_command verb words
 
 -- what the code's commands show
-abbrev pub run_names : Run → Names
-run_names words = record { image = words.image.now; input = words.input.now; schedule = words.schedule.now; report = words.report.now }
-
 abbrev pub shown_command : Command → Shown
 shown_command (IsRun words) = run (run_names words) words.config
+shown_command (IsReplay files report) = replay (recorded_names files) report.now
+shown_command (IsAsm source image) = asm source.now image.now
+shown_command (IsDis image) = dis image.now
+shown_command (IsDebug files script) = debug (recorded_names files) script.now
+shown_command (IsGen workload source) = gen workload source.now
+shown_command (IsBench workload schedule) = bench workload schedule.now
+shown_command (IsBack files script every) = back (recorded_names files) script.now every
+shown_command (IsRace files) = race (recorded_names files)
+shown_command (IsProf files) = prof (recorded_names files)
 
--- what the names of a command are to a host: those that are written differ from each other name
-pub record AreRead (names : Names) : Type 0 where
-  pub image : IsFileName names.image
-  pub input : bytes_eq names.input (codes "-") ≡ false → IsFileName names.input
-  pub schedule : IsFileName names.schedule
-  pub report : IsFileName names.report
-  pub report_image : names.report ≢ names.image
-  pub report_input : names.report ≢ names.input
-  pub report_schedule : names.report ≢ names.schedule
-
-pub record AreWritten (names : Names) : Type 0 where
-  pub read : AreRead names
-  pub schedule_image : names.schedule ≢ names.image
-  pub schedule_input : names.schedule ≢ names.input
-
+-- the names of a command are names of files, the written ones differ from each other one, and its numbers are in their ranges
 abbrev pub AreNamesOf : Shown → Type 0
 AreNamesOf (run names config) = AreWritten names × Fits config
+AreNamesOf (replay files report) = AreRecorded files × IsReport files report
+AreNamesOf (asm source image) = IsAssembly source image
+AreNamesOf (dis image) = IsFileName image
+AreNamesOf (debug files script) = AreRecorded files × IsFileName script
+AreNamesOf (gen workload source) = FitsWorkload workload × IsFileName source
+AreNamesOf (bench workload schedule) = FitsWorkload workload × IsFileName schedule
+AreNamesOf (back files script every) = AreRecorded files × IsFileName script × FitsEvery every
+AreNamesOf (race files) = AreRecorded files
+AreNamesOf (prof files) = AreRecorded files

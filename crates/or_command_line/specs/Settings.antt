@@ -1,5 +1,5 @@
 -- The options of a run: `[--cores N] [--budget N] [--ram N] [--pic latched]`, in this order.
-use Rattle.std.specs.Prelude.{ℕ, List, [], ◌∷◌, Bool, true, false, ◌&&◌, nat_le, if◌then◌else◌, Option, Some, None, codes}
+use Rattle.std.specs.Prelude.{ℕ, List, [], ◌∷◌, Bool, true, false, ◌&&◌, ◌≤◌, ◌^◌, nat_le, if◌then◌else◌, Option, Some, None, codes}
 use Rattle.std.specs.Str.{bytes_eq}
 use Rattle.or_words.specs.declared.Config.{Config}
 use Rattle.or_text.specs.Numerals.{decimal_of}
@@ -55,3 +55,20 @@ config_with_cores (Some (cores, rest)) = config_with_budget cores (option_of (co
 -- the settings that the options give; none where a word is no option here, or a setting is out of its range
 unfoldable pub config_of : List (List ℕ) → Option Config
 config_of words = config_with_cores (option_of (codes "--cores") 1 words)
+
+-- turns between two checkpoints: 1 to 2 ^ 29
+abbrev pub every_fits : ℕ → Bool
+every_fits every = nat_le 1 every && nat_le every 536870912
+
+abbrev pub every_from : Option (ℕ × List (List ℕ)) → Option ℕ
+every_from None = None
+every_from (Some (every, [])) = if every_fits every then Some every else None
+every_from (Some (every, word ∷ rest)) = None
+
+-- the option `[--every N]`; none where a word is no option here, or the number is out of its range
+unfoldable pub every_of : List (List ℕ) → Option ℕ
+every_of words = every_from (option_of (codes "--every") 1048576 words)
+
+pub record FitsEvery (every : ℕ) : Type 0 where
+  pub some : 1 ≤ every
+  pub limit : every ≤ 2 ^ 29

@@ -48,6 +48,88 @@ fn settings_are_read(rt: HostRuntime) -> Result<(), Fail> {
     Ok(())
 }
 
+// The command in other words.
+fn told(alloc: Global, command: Command<'_>) -> Result<String, AllocError> {
+    match command {
+        Command::Run(run) => format!(in alloc; "run {} {}", run.image, run.input),
+        Command::Replay { files, report } => {
+            format!(in alloc;
+                "replay {} {} {} to {report}",
+                files.image, files.input, files.schedule
+            )
+        }
+        Command::Asm { source, image } => format!(in alloc; "asm {source} to {image}"),
+        Command::Dis { image } => format!(in alloc; "dis {image}"),
+        Command::Debug { files, script } => {
+            format!(in alloc;
+                "debug {} {} {} by {script}",
+                files.image, files.input, files.schedule
+            )
+        }
+        Command::Gen { workload, source } => {
+            format!(in alloc;
+                "gen {} {} {} to {source}",
+                workload.seed, workload.cores, workload.rounds
+            )
+        }
+        Command::Bench { workload, schedule } => {
+            format!(in alloc;
+                "bench {} {} {} to {schedule}",
+                workload.seed, workload.cores, workload.rounds
+            )
+        }
+        Command::Back {
+            files,
+            script,
+            every,
+        } => {
+            format!(in alloc;
+                "back {} {} {} by {script} {every}",
+                files.image, files.input, files.schedule
+            )
+        }
+        Command::Race { files } => {
+            format!(in alloc; "race {} {} {}", files.image, files.input, files.schedule)
+        }
+        Command::Prof { files } => {
+            format!(in alloc; "prof {} {} {}", files.image, files.input, files.schedule)
+        }
+    }
+}
+
+#[test]
+fn each_command_is_read(rt: HostRuntime) -> Result<(), Fail> {
+    let cases = [
+        ("run a - c d", "run a -"),
+        ("replay a b c d", "replay a b c to d"),
+        ("replay a - a d", "replay a - a to d"),
+        ("asm a b", "asm a to b"),
+        ("dis a", "dis a"),
+        ("debug a b c d", "debug a b c by d"),
+        ("debug a - c a", "debug a - c by a"),
+        ("gen 4294967295 8 100000 a", "gen 4294967295 8 100000 to a"),
+        ("gen 0 1 1 a", "gen 0 1 1 to a"),
+        ("bench 1 4 1000 s", "bench 1 4 1000 to s"),
+        ("back a b c d", "back a b c by d 1048576"),
+        ("back a b c d --every 1", "back a b c by d 1"),
+        (
+            "back a - c d --every 536870912",
+            "back a - c by d 536870912",
+        ),
+        ("race a b c", "race a b c"),
+        ("race a - a", "race a - a"),
+        ("prof a b c", "prof a b c"),
+    ];
+    for (line, wanted) in cases {
+        let words = words(rt.alloc(), line)?;
+        let Some(command) = parse(&words) else {
+            return Err(Fail::from("no command"));
+        };
+        assert_eq!(rt; told(rt.alloc(), command)?.as_str(), wanted, "{line}");
+    }
+    Ok(())
+}
+
 #[test]
 fn other_words_are_no_command(rt: HostRuntime) -> Result<(), Fail> {
     let cases = [
@@ -73,9 +155,57 @@ fn other_words_are_no_command(rt: HostRuntime) -> Result<(), Fail> {
         "run -a b c d",
         "run a --b c d",
         "run a b - d",
-        "replay a b c d",
         "Run a b c d",
         "--help",
+        "replay a b c",
+        "replay a b c d e",
+        "replay a b c c",
+        "replay a b c a",
+        "replay a b c b",
+        "replay a b c -",
+        "replay a b c d --cores 1",
+        "asm",
+        "asm a",
+        "asm a a",
+        "asm a -",
+        "asm - a",
+        "asm a b c",
+        "dis",
+        "dis -",
+        "dis a b",
+        "debug a b c",
+        "debug a b c -",
+        "debug a b c d e",
+        "debug a b c d --every 1",
+        "gen 1 1 1",
+        "gen 1 1 1 -",
+        "gen 1 1 1 a b",
+        "gen 4294967296 1 1 a",
+        "gen 01 1 1 a",
+        "gen -1 1 1 a",
+        "gen 1 0 1 a",
+        "gen 1 9 1 a",
+        "gen 1 1 0 a",
+        "gen 1 1 100001 a",
+        "bench 1 1 1",
+        "bench 1 9 1 a",
+        "bench 1 1 1 a b",
+        "bench x 1 1 a",
+        "back a b c",
+        "back a b c d --every",
+        "back a b c d --every 0",
+        "back a b c d --every 536870913",
+        "back a b c d --every 01",
+        "back a b c d --every 1 e",
+        "back a b c d e",
+        "back a b c d --cores 1",
+        "race a b",
+        "race a b c d",
+        "race - b c",
+        "race a b -",
+        "prof a b",
+        "prof a b c d",
+        "prof a --b c",
     ];
     for line in cases {
         let words = words(rt.alloc(), line)?;

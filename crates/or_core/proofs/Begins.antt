@@ -1,5 +1,5 @@
-use Rattle.std.proofs.Common.{◌≡◌, ℕ, zero, suc, ◌+◌, ◌-◌, ◌<◌, Bool, true, false, cond, refl, ap, arith, sub-one, ◌∙◌, sym}
-use Rattle.std.specs.Prelude.{is_none, ◌&&◌, None}
+use Rattle.std.proofs.Common.{◌≡◌, ℕ, zero, suc, ◌-◌, ◌<◌, true, false, cond, refl, ap, arith, sub-one, ◌∙◌}
+use Rattle.std.specs.Prelude.{is_none, None}
 use Rattle.or_model.specs.Core.{Core}
 use Rattle.or_model.specs.Step.{is_private, private_step}
 use Rattle.or_model.specs.Turn.{Begun, begun_within, steps_alone}

@@ -1,4 +1,6 @@
+pub mod Accesses
 pub mod Aligned
 pub mod Begins
 pub mod Pages
 pub mod Progress
+pub mod Traces

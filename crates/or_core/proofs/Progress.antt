@@ -1,7 +1,7 @@
 -- A turn makes at least one step.
-use Rattle.std.proofs.Common.{◌≡◌, ℕ, ◌+◌, ◌<◌, ◌≤◌, Bool, true, false, cond, None, refl, subst, arith}
+use Rattle.std.proofs.Common.{◌≡◌, ◌+◌, ◌<◌, Bool, true, false, cond, None, refl, subst, arith}
 use Rattle.or_model.specs.Core.{Core}
-use Rattle.or_model.specs.Turn.{Begun, turn_begun}
+use Rattle.or_model.specs.Turn.{turn_begun}
 use Rattle.or_model.specs.Counts.{IsWithinBudget}
 use Rattle.or_model.proofs.Turns.{Begins, turn_begun-begins}
 

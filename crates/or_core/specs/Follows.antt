@@ -1,5 +1,5 @@
 -- How the code of a core and of the bus follows the definitions.
-use Rattle.std.specs.Prelude.{◌≡◌, ℕ, ◌+◌, ◌%◌, ◌<◌, ◌≤◌, true, false, Bool, Result, Ok, Err}
+use Rattle.std.specs.Prelude.{◌≡◌, ℕ, ◌+◌, ◌%◌, ◌≤◌, Result, Ok, Err}
 use Rattle.or_parts.specs.declared.Cause.{Cause}
 use Rattle.or_model.specs.declared.Route.{Route}
 use Rattle.or_model.specs.declared.Route.TheVariants.{Refused, At}

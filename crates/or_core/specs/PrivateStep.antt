@@ -1,5 +1,5 @@
 -- What a core makes of a step that needs no bus.
-use Rattle.std.specs.Prelude.{◌≡◌, Bool, true, false, None, is_none}
+use Rattle.std.specs.Prelude.{◌≡◌, true, false, None, is_none}
 use Rattle.or_core.specs.declared.private.Private.{Private}
 use Rattle.or_core.specs.declared.private.Private.TheVariants.{Stepped, NeedsBus, Stopped}
 use Rattle.or_model.specs.Core.{Core}

@@ -1,6 +1,8 @@
 //! Loads and stores: where they go, and what the bus answers.
 
 ghost use Rattle.std.specs.Prelude.{◌≡◌, ◌<◌, ◌%◌, OnErr, false};
+ghost use Rattle.std.specs.Option.{option_or};
+ghost use Rattle.or_words.specs.declared.Width.TheVariants.{Word};
 ghost use Rattle.or_parts.specs.Memory.{bytes_of};
 ghost use Rattle.or_model.specs.World.{World};
 ghost use Rattle.or_model.specs.Routes.{data_route};
@@ -9,9 +11,10 @@ ghost use Rattle.or_bus.specs.Represents.{Represents};
 ghost use Rattle.or_tlb.specs.Rights.{is_fetch};
 ghost use Rattle.or_model.specs.Counts.{SameCounts};
 ghost use Rattle.or_core.specs.Follows.{IsOutcome, IsAlignedBy, KeepsBus};
+ghost use Rattle.or_core.specs.Access.{access_at};
 
 use crate::state::{Core, has};
-use or_bus::Bus;
+use or_bus::{AccessKind, Bus};
 use or_model::Route;
 use or_parts::{Cause, Right, TlbFault};
 use or_words::{ExtendKind, Width, extend};
@@ -79,6 +82,7 @@ impl Core {
         ensures outcome { (world : World) → Represents bus.old world → IsOutcome (loaded self.old world d width kind ea) result self.new bus.new }
         ensures err { OnErr result ((self.new ≡ self.old) × (bus.new ≡ bus.old)) }
         ensures counts { SameCounts self.old self.new }
+        ensures access { (world : World) → Represents bus.old world → bus.new.last ≡ option_or (access_at self.old world AccessKind.Load (data_route self.old ea width Right.Load)) bus.old.last }
         ensures bus { KeepsBus bus.old bus.new }
     {
         match self.data_route(ea, width, Right::Load) {
@@ -101,6 +105,7 @@ impl Core {
         ensures outcome { (world : World) → Represents bus.old world → IsOutcome (loaded_linked self.old world d ea) result self.new bus.new }
         ensures err { OnErr result ((self.new ≡ self.old) × (bus.new ≡ bus.old)) }
         ensures counts { SameCounts self.old self.new }
+        ensures access { (world : World) → Represents bus.old world → bus.new.last ≡ option_or (access_at self.old world AccessKind.Linked (data_route self.old ea Word Right.Load)) bus.old.last }
         ensures bus { KeepsBus bus.old bus.new }
     {
         match self.data_route(ea, Width::Word, Right::Load) {
@@ -130,6 +135,7 @@ impl Core {
         ensures outcome { (world : World) → Represents bus.old world → IsOutcome (stored_value self.old world v width ea) result self.new bus.new }
         ensures err { OnErr result ((self.new ≡ self.old) × (bus.new ≡ bus.old)) }
         ensures counts { SameCounts self.old self.new }
+        ensures access { (world : World) → Represents bus.old world → bus.new.last ≡ option_or (access_at self.old world AccessKind.Store (data_route self.old ea width Right.Store)) bus.old.last }
         ensures bus { KeepsBus bus.old bus.new }
     {
         match self.data_route(ea, width, Right::Store) {
@@ -151,6 +157,7 @@ impl Core {
         ensures outcome { (world : World) → Represents bus.old world → IsOutcome (stored_conditional self.old world v ea) result self.new bus.new }
         ensures err { OnErr result ((self.new ≡ self.old) × (bus.new ≡ bus.old)) }
         ensures counts { SameCounts self.old self.new }
+        ensures access { (world : World) → Represents bus.old world → bus.new.last ≡ option_or (access_at self.old world AccessKind.Conditional (data_route self.old ea Word Right.Store)) bus.old.last }
         ensures bus { KeepsBus bus.old bus.new }
     {
         match self.data_route(ea, Width::Word, Right::Store) {

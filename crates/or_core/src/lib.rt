@@ -14,3 +14,6 @@ mod turn;
 pub use or_model::Stop;
 pub use private::Private;
 pub use state::Core;
+
+#[cfg(test)]
+mod tests;

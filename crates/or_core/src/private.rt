@@ -1,6 +1,6 @@
 //! Private steps: those that need no bus.
 
-ghost use Rattle.std.specs.Prelude.{◌≡◌, ◌≢◌, ◌<◌, true, false};
+ghost use Rattle.std.specs.Prelude.{◌≡◌, ◌≢◌, ◌<◌, ◌+◌, true, false};
 ghost use Rattle.or_isa.specs.Decode.{decode_of};
 ghost use Rattle.or_model.specs.World.{World};
 ghost use Rattle.or_model.specs.Step.{step_by_word, step, wants_bus, empty_world};
@@ -29,6 +29,7 @@ impl Core {
     pub fn try_private(&mut self) -> Private
         ensures tried { IsPrivateStep result self.old self.new }
         ensures any_world { result ≡ Private.Stepped → (world : World) → step self.old world ≡ record { core = self.new; world = world } }
+        ensures steps { result ≡ Private.Stepped → self.new.steps ≡ self.old.steps + 1 }
         ensures settings { SameSettings self.old self.new }
     {
         if self.stop.is_some() {
@@ -61,6 +62,7 @@ impl Core {
         ensures any_world { result ≡ Private.Stepped → (world : World) → step_by_word self.old world word ≡ record { core = self.new; world = world } }
         ensures needs_bus { result ≡ Private.NeedsBus → (wants_bus self.old (decode_of word) ≡ true) × (self.new ≡ self.old) }
         ensures running { result ≢ Private.Stopped }
+        ensures steps { result ≡ Private.Stepped → self.new.steps ≡ self.old.steps + 1 }
         ensures settings { SameSettings self.old self.new }
     {
         match decode(word) {

@@ -24,7 +24,7 @@ impl Core {
     }
 
     /// What an l.mfspr of register `n` reads at the core's place (OpenRISC 1000 Architecture Manual,
-    /// section 4.3). Numbers that name no register read 0.
+    /// chapter 4). Numbers that name no register read 0.
     #[tactic(auto, unfolding(or_model::specs::SpecialAccess::special))]
     pub fn special(&self, n: u32) -> u32
         ensures { result ≡ special self.now n }

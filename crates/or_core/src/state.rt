@@ -196,6 +196,13 @@ impl Core {
         }
     }
 
+    #[inline]
+    pub(crate) fn pc(&self) -> u32
+        ensures { result ≡ self.now.pc }
+    {
+        self.pc
+    }
+
     /// What general register `n` reads; r0 is 0.
     #[inline]
     pub fn register(&self, n: u32) -> u32

@@ -1,7 +1,7 @@
 //! One step of a core.
 
-ghost use Rattle.std.specs.Prelude.{◌≡◌, ◌+◌, ◌<◌, ◌%◌, MatchResult, OnErr, Ok, Err, None};
-ghost use Rattle.std.specs.Option.{ForSome};
+ghost use Rattle.std.specs.Prelude.{◌≡◌, ◌+◌, ◌<◌, ◌%◌, MatchResult, OnErr, Ok, Err, Some, None, option_and_then};
+ghost use Rattle.std.specs.Option.{ForSome, option_or};
 ghost use Rattle.or_isa.specs.Fits.{Fits};
 ghost use Rattle.or_parts.specs.Bits.{plus, immediate};
 ghost use Rattle.or_model.specs.Core.{exception_entry, register};
@@ -11,6 +11,7 @@ ghost use Rattle.or_model.specs.Step.{with_step_counted, is_misplaced, spr_numbe
 ghost use Rattle.or_bus.specs.Represents.{Represents};
 ghost use Rattle.or_model.specs.Counts.{SameCounts, SameSettings};
 ghost use Rattle.or_core.specs.Follows.{IsState, IsOutcome, IsAlignedBy, KeepsBus};
+ghost use Rattle.or_core.specs.Access.{reach, access_by, access_of_word, word_fetched, step_access};
 
 use crate::data_access::UNCACHED;
 use crate::state::{Core, has};
@@ -149,6 +150,7 @@ impl Core {
         ensures outcome { (world : World) → Represents bus.old world → IsOutcome (outcome_on_bus self.old world insn) result self.new bus.new }
         ensures err { OnErr result ((self.new ≡ self.old) × (bus.new ≡ bus.old)) }
         ensures counts { SameCounts self.old self.new }
+        ensures access { (world : World) → Represents bus.old world → bus.new.last ≡ option_or (option_and_then (access_by self.old world) (reach insn)) bus.old.last }
         ensures bus { KeepsBus bus.old bus.new }
     {
         if self.is_misplaced(&insn) {
@@ -249,6 +251,7 @@ impl Core {
         ensures state { (world : World) → Represents bus.old world → IsState (step_on_bus self.old world insn) self.new bus.new }
         ensures settings { SameSettings self.old self.new }
         ensures steps { self.new.steps ≡ self.old.steps + 1 }
+        ensures access { (world : World) → Represents bus.old world → bus.new.last ≡ option_or (option_and_then (access_by self.old world) (reach insn)) bus.old.last }
         ensures bus { KeepsBus bus.old bus.new }
     {
         match self.attempt_on_bus(bus, insn) {
@@ -258,7 +261,7 @@ impl Core {
     }
 
     // One step by a word that was fetched.
-    #[tactic(auto, unfolding(or_model::specs::Step::step_by_word))]
+    #[tactic(auto, unfolding(or_model::specs::Step::step_by_word, crate::specs::Access::access_of_word))]
     fn step_by_word(&mut self, bus: &mut Bus, word: u32)
         requires room { self.old.steps < self.old.budget }
         requires known { self.old.number < bus.old.cores }
@@ -266,6 +269,7 @@ impl Core {
         ensures state { (world : World) → Represents bus.old world → IsState (step_by_word self.old world word) self.new bus.new }
         ensures settings { SameSettings self.old self.new }
         ensures steps { self.new.steps ≡ self.old.steps + 1 }
+        ensures access { (world : World) → Represents bus.old world → bus.new.last ≡ option_or (access_of_word self.old world word) bus.old.last }
         ensures bus { KeepsBus bus.old bus.new }
     {
         match decode(word) {
@@ -290,6 +294,7 @@ impl Core {
         ensures state { (world : World) → Represents bus.old world → IsState (step_unheld self.old world pa cached) self.new bus.new }
         ensures settings { SameSettings self.old self.new }
         ensures steps { self.new.steps ≡ self.old.steps + 1 }
+        ensures access { (world : World) → Represents bus.old world → bus.new.last ≡ option_or (option_and_then (access_of_word self.old world) (word_fetched world pa cached)) bus.old.last }
         ensures bus { KeepsBus bus.old bus.new }
     {
         match bus.fetch(pa, cached) {
@@ -297,12 +302,12 @@ impl Core {
                 self.hold_line(pa, &fetched.line);
                 self.step_by_word(bus, fetched.word)
             }
-            Err(_) => self.enter_step(Cause::BusError(self.place().pc)),
+            Err(_) => self.enter_step(Cause::BusError(self.pc())),
         }
     }
 
     /// Makes one step: a retired instruction, or an exception entry. The steps rise by one.
-    #[tactic(auto, unfolding(or_model::specs::Step::step))]
+    #[tactic(auto, unfolding(or_model::specs::Step::step, crate::specs::Access::step_access))]
     pub fn step(&mut self, bus: &mut Bus)
         requires running { self.old.stop ≡ None }
         requires known { self.old.number < bus.old.cores }
@@ -310,6 +315,7 @@ impl Core {
         ensures state { (world : World) → Represents bus.old world → IsState (step self.old world) self.new bus.new }
         ensures settings { SameSettings self.old self.new }
         ensures steps { self.new.steps ≡ self.old.steps + 1 }
+        ensures access { (world : World) → Represents bus.old world → bus.new.last ≡ option_or (step_access self.old world) bus.old.last }
         ensures bus { KeepsBus bus.old bus.new }
     {
         let _ = &self.steps;

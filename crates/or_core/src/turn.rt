@@ -1,14 +1,18 @@
 //! Turns of a core.
 
-ghost use Rattle.std.specs.Prelude.{◌≡◌, ◌<◌, ◌+◌, if◌then◌else◌, None, IsTrue};
+ghost use Rattle.std.specs.Prelude.{◌≡◌, ◌<◌, ◌+◌, if◌then◌else◌, None, IsTrue, [], ◌++◌, length};
+ghost use Rattle.std.specs.Option.{option_or};
 ghost use Rattle.or_model.specs.World.{World};
 ghost use Rattle.or_model.specs.Turn.{turn_begun, turn_ended, turn};
+ghost use Rattle.or_model.specs.Trace.{private_trace, bus_trace, turn_trace};
 ghost use Rattle.or_bus.specs.Represents.{Represents};
 ghost use Rattle.or_model.specs.Counts.{SameSettings};
 ghost use Rattle.or_core.specs.Follows.{IsState, KeepsBus};
+ghost use Rattle.or_core.specs.Access.{step_access, turn_access};
 
 use crate::private::Private;
 use crate::state::Core;
+use arrayvec::ArrayVec;
 use or_bus::Bus;
 
 impl Core {
@@ -40,6 +44,7 @@ impl Core {
         ensures state { (world : World) → Represents bus.old world → IsState (turn_ended self.old world follows) self.new bus.new }
         ensures settings { SameSettings self.old self.new }
         ensures steps { self.new.steps ≡ self.old.steps + (if follows then 1 else 0) }
+        ensures access { (world : World) → Represents bus.old world → bus.new.last ≡ option_or (if follows then step_access self.old world else None) bus.old.last }
         ensures bus { KeepsBus bus.old bus.new }
     {
         if follows {
@@ -50,7 +55,7 @@ impl Core {
 
     /// Makes one turn: private steps, at most 256, then a step on the bus where fewer were made and
     /// the core has not stopped, then the sampling of the interrupt lines.
-    #[tactic(auto, using(crate::proofs::Progress::turn_progress), unfolding(or_model::specs::Turn::turn))]
+    #[tactic(auto, using(crate::proofs::Progress::turn_progress), unfolding(or_model::specs::Turn::turn, crate::specs::Access::turn_access))]
     pub fn turn(&mut self, bus: &mut Bus)
         requires running { self.old.stop ≡ None }
         requires known { self.old.number < bus.old.cores }
@@ -58,10 +63,66 @@ impl Core {
         ensures state { (world : World) → Represents bus.old world → IsState (turn self.old world) self.new bus.new }
         ensures settings { SameSettings self.old self.new }
         ensures progress { self.old.steps < self.new.steps }
+        ensures access { (world : World) → Represents bus.old world → bus.new.last ≡ option_or (turn_access self.old world) bus.old.last }
         ensures bus { KeepsBus bus.old bus.new }
     {
         let _ = &self.steps;
         let follows = self.begin_turn();
         self.end_turn(bus, follows);
+    }
+
+    /// Makes one turn as `turn` does, and lists in `trace`, which is empty before, the pc before each of
+    /// its 1 to 256 steps, in their order.
+    #[tactic(auto, using(crate::proofs::Progress::turn_progress), unfolding(or_model::specs::Turn::turn, crate::specs::Access::turn_access, or_model::specs::Trace::turn_trace))]
+    pub fn turn_traced(&mut self, bus: &mut Bus, trace: &mut ArrayVec<u32, 256>)
+        requires running { self.old.stop ≡ None }
+        requires known { self.old.number < bus.old.cores }
+        requires spare { 0 < bus.old.spare }
+        requires empty { trace.old.items ≡ [] }
+        ensures state { (world : World) → Represents bus.old world → IsState (turn self.old world) self.new bus.new }
+        ensures settings { SameSettings self.old self.new }
+        ensures progress { self.old.steps < self.new.steps }
+        ensures access { (world : World) → Represents bus.old world → bus.new.last ≡ option_or (turn_access self.old world) bus.old.last }
+        ensures bus { KeepsBus bus.old bus.new }
+        ensures trace { trace.new.items ≡ turn_trace self.old }
+        ensures items { self.new.steps ≡ self.old.steps + length trace.new.items }
+    {
+        let _ = &self.steps;
+        let follows = self.begin_traced(trace);
+        self.trace_bus_step(follows, trace);
+        self.end_turn(bus, follows);
+    }
+
+    // The private steps of a turn, with the pc before each.
+    #[tactic(auto, using(crate::proofs::Begins::begin_steps, crate::proofs::Traces::trace_steps), unfolding(or_model::specs::Turn::turn_begun, or_model::specs::Trace::private_trace))]
+    fn begin_traced(&mut self, trace: &mut ArrayVec<u32, 256>) -> bool
+        requires running { self.old.stop ≡ None }
+        requires empty { trace.old.items ≡ [] }
+        ensures begun { turn_begun self.old ≡ record { core = self.new; follows = result } }
+        ensures running { IsTrue result → self.new.stop ≡ None }
+        ensures settings { SameSettings self.old self.new }
+        ensures trace { trace.new.items ≡ private_trace self.old }
+        ensures room { IsTrue result → length trace.new.items < 256 }
+        ensures items { self.new.steps ≡ self.old.steps + length trace.new.items }
+    {
+        for noted in 0..256u32 {
+            let pc = self.pc();
+            match self.try_private() {
+                Private::Stepped => trace.push(pc),
+                Private::NeedsBus => return true,
+                Private::Stopped => return false,
+            }
+        }
+        false
+    }
+
+    // The pc before the step on the bus, if one follows.
+    fn trace_bus_step(&self, follows: bool, trace: &mut ArrayVec<u32, 256>)
+        requires { IsTrue follows → length trace.old.items < 256 }
+        ensures { trace.new.items ≡ trace.old.items ++ bus_trace (record { core = self.now; follows = follows }) }
+    {
+        if follows {
+            trace.push(self.pc());
+        }
     }
 }

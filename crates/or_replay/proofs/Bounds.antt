@@ -1,15 +1,15 @@
 -- A schedule makes at most one write and sends at most one byte in each of its turns, so its marks are small.
-use Rattle.std.proofs.Common.{◌≡◌, ℕ, ◌+◌, ◌*◌, ◌<◌, ◌≤◌, zero, suc, List, [], ◌∷◌, ◌++◌, Some, None, length, take, refl, ap, sym, ◌∙◌, arith, length-append, min, cond, Bool, true, false}
-use Rattle.std.specs.Prelude.{Option, is_none, slice_get}
+use Rattle.std.proofs.Common.{◌≡◌, ℕ, ◌+◌, ◌*◌, ◌≤◌, zero, suc, List, [], ◌∷◌, ◌++◌, Some, None, length, take, ap, sym, ◌∙◌, arith}
+use Rattle.std.specs.Prelude.{Option, slice_get}
 use Rattle.std.proofs.Math.Nat.{mul-suc}
 use Rattle.std.proofs.lemmas.List.{length-take-le}
 use Rattle.or_sched.specs.declared.recording.Mark.{Mark}
 use Rattle.or_sched.specs.Schedule.{AreMarksAfter}
 use Rattle.or_model.specs.Core.{Core}
 use Rattle.or_model.specs.World.{World}
-use Rattle.or_model.specs.Turn.{Board, turn, board_turned, board_turned_by, running, and_then, replay}
-use Rattle.or_model.proofs.Growth.{Grows, turn_grows}
-use Rattle.or_replay.specs.Marks.{mark_of, mark_after, block_marks}
+use Rattle.or_model.specs.Turn.{Board, board_turned, board_turned_by, running, and_then, replay}
+use Rattle.or_model.proofs.Growth.{turn_grows}
+use Rattle.or_replay.specs.Marks.{mark_after, block_marks}
 use Rattle.or_replay.proofs.Replaying.{length-block_marks}
 
 -- the world after so many turns

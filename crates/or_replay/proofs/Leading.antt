@@ -5,8 +5,7 @@ use Rattle.or_model.specs.declared.Stop.{Stop}
 use Rattle.std.proofs.lemmas.Bool.Decides.{nat_tests}
 use Rattle.or_sched.specs.declared.recording.Mark.{Mark}
 use Rattle.or_model.specs.Core.{Core}
-use Rattle.or_model.specs.World.{World}
-use Rattle.or_model.specs.Turn.{Board, board_turned, replay}
+use Rattle.or_model.specs.Turn.{Board, replay}
 use Rattle.or_bus.specs.State.{BusState}
 use Rattle.or_replay.specs.Board.{IsBoard, LeadsOn, all_stopped}
 use Rattle.or_replay.specs.Marks.{mark_of, block_marks, marks}

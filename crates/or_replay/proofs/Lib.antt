@@ -6,3 +6,5 @@ pub mod Replaying
 pub mod Bounds
 pub mod Leading
 pub mod Schedules
+pub mod Followed
+pub mod Followable

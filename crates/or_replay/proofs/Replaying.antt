@@ -1,10 +1,9 @@
 -- A schedule that is one turn longer, and the marks of its blocks.
-use Rattle.std.proofs.Common.{◌≡◌, ℕ, ◌+◌, ◌*◌, ◌-◌, ◌<◌, ◌≤◌, zero, suc, List, [], ◌∷◌, ◌++◌, Some, None, length, take, refl, ap, sym, ◌∙◌, arith, length-append, add-one}
+use Rattle.std.proofs.Common.{◌≡◌, ℕ, ◌+◌, ◌*◌, ◌≤◌, zero, suc, List, [], ◌∷◌, ◌++◌, Some, None, length, take, refl, ap, sym, ◌∙◌, arith, length-append, add-one}
 use Rattle.std.proofs.Math.Nat.{mul-suc}
 use Rattle.std.specs.Prelude.{Option}
 use Rattle.std.proofs.lemmas.List.{take-append-le}
 use Rattle.std.proofs.Math.Seq.{take-length}
-use Rattle.or_sched.specs.declared.recording.Mark.{Mark}
 use Rattle.or_model.specs.Turn.{Board, board_turned, and_then, replay}
 use Rattle.or_replay.specs.Marks.{mark_of, mark_after, block_marks}
 

@@ -1,6 +1,6 @@
 -- The cores at reset: how many, their numbers, and the steps that they may make.
-use Rattle.std.proofs.Common.{◌≡◌, ℕ, ◌+◌, ◌*◌, ◌-◌, ◌<◌, zero, suc, List, [], ◌∷◌, ◌++◌, Some, None, length, ◌⊎◌, inl, inr, refl, ap, sym, ◌∙◌, arith, length-append, add-one, cond, subst}
-use Rattle.std.specs.Prelude.{Option, slice_get, is_none}
+use Rattle.std.proofs.Common.{◌≡◌, ℕ, ◌+◌, ◌*◌, ◌-◌, zero, suc, List, [], ◌∷◌, ◌++◌, Some, length, ◌⊎◌, inl, inr, refl, ap, sym, ◌∙◌, arith, length-append, add-one, cond, subst}
+use Rattle.std.specs.Prelude.{slice_get, is_none}
 use Rattle.std.proofs.Math.Nat.{suc-mul}
 use Rattle.or_words.specs.declared.Config.{Config}
 use Rattle.or_model.specs.Core.{Core, reset_core}

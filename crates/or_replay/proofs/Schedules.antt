@@ -1,19 +1,18 @@
 -- The schedule of a run from the start, and its marks, are such as a recording can have.
-use Rattle.std.proofs.Common.{◌≡◌, ℕ, ◌+◌, ◌*◌, ◌/◌, ◌<◌, ◌≤◌, zero, suc, List, [], ◌∷◌, ◌++◌, Some, None, length, refl, ap, sym, ◌∙◌, arith, true, false, Bool, cond, ◌&&◌}
+use Rattle.std.proofs.Common.{◌≡◌, ℕ, ◌*◌, ◌/◌, ◌<◌, ◌≤◌, zero, suc, List, [], ◌∷◌, ◌++◌, Some, None, length, refl, ap, sym, ◌∙◌, arith, true, false, Bool, cond, ◌&&◌}
 use Rattle.std.specs.List.{All}
 use Rattle.std.specs.Prelude.{Option, is_none}
 use Rattle.or_model.specs.declared.Stop.{Stop}
 use Rattle.or_words.specs.declared.Config.{Config}
 use Rattle.or_words.specs.Settings.{Fits}
-use Rattle.or_sched.specs.declared.recording.Mark.{Mark}
-use Rattle.or_sched.specs.Schedule.{IsSchedule, AreMarks, AreMarksAfter}
+use Rattle.or_sched.specs.Schedule.{IsSchedule, AreMarks}
 use Rattle.or_model.specs.Core.{Core, reset_core}
 use Rattle.or_model.specs.World.{new_world}
 use Rattle.or_parts.specs.Uart.{reset_uart}
 use Rattle.or_model.specs.Turn.{Board, replay, reset_cores}
 use Rattle.or_replay.specs.Start.{start}
 use Rattle.or_replay.specs.Board.{steps_left, all_stopped}
-use Rattle.or_replay.specs.Marks.{marks, block_marks}
+use Rattle.or_replay.specs.Marks.{marks}
 use Rattle.or_replay.specs.Rounds.{IsFinished}
 use Rattle.or_replay.specs.declared.rounds.Finished.{Finished}
 use Rattle.or_replay.proofs.Reset.{length-reset_cores, left-reset_cores}

@@ -3,11 +3,10 @@ use Rattle.std.proofs.Common.{◌≡◌, ℕ, ◌+◌, ◌-◌, ◌<◌, ◌≤�
 use Rattle.std.specs.Prelude.{Option, slice_get, slice_set, slice_index_or, is_none}
 use Rattle.or_model.specs.Core.{Core}
 use Rattle.or_model.specs.declared.Stop.{Stop}
-use Rattle.or_model.specs.World.{World}
 use Rattle.or_model.specs.Turn.{Board, turn, with_core, running, board_turned, board_turned_by}
 use Rattle.or_bus.specs.State.{BusState}
 use Rattle.or_bus.specs.Represents.{Represents}
-use Rattle.or_replay.specs.Board.{steps_left, left_of, IsInOrder, IsBoard, IsCoreTurned, TurnsAt, RunsAt, LeadsOn}
+use Rattle.or_replay.specs.Board.{steps_left, left_of, IsInOrder, IsCoreTurned, TurnsAt, RunsAt, LeadsOn}
 
 length-set : (cores : List Core) (place : ℕ) (new : Core) → length (slice_set cores place new) ≡ length cores
 length-set [] place new = refl
@@ -94,3 +93,19 @@ pub get_is : (cores : List Core) (c : ℕ) (default : Core) → c < length cores
 get_is [] c default inside = absurd (omega arith)
 get_is (core ∷ cores) zero default inside = refl
 get_is (core ∷ cores) (suc c) default inside = get_is cores c default (omega arith)
+
+pub one_core : (cores : List Core) (place : ℕ) (core other : Core) → slice_get cores place ≡ Some core → slice_get cores place ≡ Some other → core ≡ other
+one_core cores place core other at found = let e : Some core ≡ Some other = sym at ∙ found in cc
+
+get_set : (cores : List Core) (place : ℕ) (old new : Core) → slice_get cores place ≡ Some old → slice_get (slice_set cores place new) place ≡ Some new
+get_set [] place old new at = absurd (let b : ⊥ = cc in b)
+get_set (core ∷ cores) zero old new at = refl
+get_set (core ∷ cores) (suc place) old new at = get_set cores place old new at
+
+-- the steps of the core at a place rise by those of its new core
+pub steps_at : (cores : List Core) (place : ℕ) (old new before after : Core) (made : ℕ) → slice_get cores place ≡ Some old → slice_get cores place ≡ Some before
+    → slice_get (slice_set cores place new) place ≡ Some after → new.steps ≡ old.steps + made → after.steps ≡ before.steps + made
+steps_at cores place old new before after made at found new_found steps =
+    let same : old ≡ before = one_core cores place old before at found in
+    let new_same : new ≡ after = one_core (slice_set cores place new) place new after (get_set cores place old new at) new_found in
+    ap (λ (k : Core). k.steps) (sym new_same) ∙ steps ∙ ap (λ (k : Core). k.steps + made) same

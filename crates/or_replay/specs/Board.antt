@@ -4,6 +4,8 @@ use Rattle.or_words.specs.declared.Config.{Config}
 use Rattle.or_model.specs.Core.{Core}
 use Rattle.or_model.specs.Turn.{Board, turn, board_turned}
 use Rattle.or_model.specs.World.{World}
+use Rattle.std.specs.Option.{option_or}
+use Rattle.or_core.specs.Access.{turn_access}
 use Rattle.or_bus.specs.State.{BusState}
 use Rattle.or_bus.specs.Represents.{Represents}
 use Rattle.or_replay.specs.declared.board.Refused.{Refused}
@@ -36,7 +38,7 @@ pub record IsBoard (cores : List Core) (bus : BusState) (board : Board) : Type 0
   pub represents : Represents bus board.world
 
 -- a turn is made as the definitions say, or refused where they refuse it
-abbrev pub IsTurned : Option Board → Result (Unit {0}) Refused → List Core → BusState → Type 0
+abbrev pub IsTurned : {T : Type 0} → Option Board → Result T Refused → List Core → BusState → Type 0
 IsTurned (Some board) (Ok done) cores bus = IsBoard cores bus board
 IsTurned None (Err refused) cores bus = Unit {0}
 IsTurned (Some board) (Err refused) cores bus = ⊥
@@ -48,13 +50,13 @@ all_stopped [] = true
 all_stopped (core ∷ cores) = (if is_none core.stop then false else true) && all_stopped cores
 
 -- a turn is refused where the board has no core of this number, and where that core has stopped
-abbrev pub RefusedBy : List Core → ℕ → Result (Unit {0}) Refused → Type 0
+abbrev pub RefusedBy : {T : Type 0} → List Core → ℕ → Result T Refused → Type 0
 RefusedBy cores c (Ok done) = c < length cores
 RefusedBy cores c (Err NoSuchCore) = length cores ≤ c
-RefusedBy cores c (Err CoreStopped) = (core : Core) → slice_get cores c ≡ Some core → is_none core.stop ≡ false
+RefusedBy cores c (Err CoreStopped) = (c < length cores) × ((core : Core) → slice_get cores c ≡ Some core → is_none core.stop ≡ false)
 
 -- a turn that is made lessens the steps that are left
-abbrev pub Lessens : Result (Unit {0}) Refused → List Core → List Core → Type 0
+abbrev pub Lessens : {T : Type 0} → Result T Refused → List Core → List Core → Type 0
 Lessens (Ok done) old new = steps_left new < steps_left old
 Lessens (Err refused) old new = new ≡ old
 
@@ -77,8 +79,14 @@ pub record IsCoreTurned (core : Core) (bus : BusState) (new_core : Core) (new_bu
   pub left : left_of new_core < left_of core
   pub cores : new_bus.cores ≡ bus.cores
   pub room : bus.spare ≤ new_bus.spare + 1
+  pub access : (world : World) → Represents bus world → new_bus.last ≡ option_or (turn_access core world) bus.last
 
 -- the core at a place has made a turn, and all others are as before
 abbrev pub TurnsAt : List Core → BusState → ℕ → List Core → BusState → Type 0
 TurnsAt cores bus place new_cores new_bus = (core : Core) (world : World) → slice_get cores place ≡ Some core → Represents bus world
     → (new_cores ≡ slice_set cores place (turn core world).core) × Represents new_bus (turn core world).world
+
+-- what the bus tells after the turn of the core at a place: the access of this turn, and the one before where it makes none
+abbrev pub TellsAccess : List Core → BusState → ℕ → BusState → Type 0
+TellsAccess cores bus place new_bus =
+    (core : Core) (world : World) → slice_get cores place ≡ Some core → Represents bus world → new_bus.last ≡ option_or (turn_access core world) bus.last

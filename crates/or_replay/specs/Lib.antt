@@ -4,3 +4,5 @@ pub mod Board
 pub mod Opening
 pub mod Report
 pub mod Rounds
+pub mod Following
+pub mod Watching

@@ -13,6 +13,10 @@ use Rattle.or_replay.specs.declared.rounds.Finished.{Finished}
 abbrev pub AreStoppedFrom : ℕ → List Core → Type 0
 AreStoppedFrom from cores = (c : ℕ) (core : Core) → from ≤ c → slice_get cores c ≡ Some core → ¬ (core.stop ≡ None)
 
+-- and those up to another
+abbrev pub AreStoppedUpTo : ℕ → ℕ → List Core → Type 0
+AreStoppedUpTo from to cores = (c : ℕ) (core : Core) → from ≤ c → c < to → slice_get cores c ≡ Some core → ¬ (core.stop ≡ None)
+
 pub record IsFinished (start : Board) (finished : Finished) : Type 0 where
   pub last : Board
   pub replayed : replay start finished.schedule.items ≡ Some last

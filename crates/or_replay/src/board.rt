@@ -6,7 +6,7 @@ ghost use Rattle.or_model.specs.World.{World};
 ghost use Rattle.or_model.specs.Turn.{Board as BoardModel, turn, board_turned};
 ghost use Rattle.or_bus.specs.Represents.{Represents};
 ghost use Rattle.or_replay.specs.Marks.{mark_of};
-ghost use Rattle.or_replay.specs.Board.{IsBoard, IsInOrder, IsTurned, steps_left, all_stopped, RefusedBy, Lessens, RunsAt, LeadsOn, AreOfBus, IsCoreTurned, TurnsAt};
+ghost use Rattle.or_replay.specs.Board.{IsBoard, IsInOrder, IsTurned, steps_left, all_stopped, RefusedBy, Lessens, RunsAt, LeadsOn, AreOfBus, IsCoreTurned, TurnsAt, TellsAccess};
 
 use arrayvec::ArrayVec;
 use or_bus::{Bus, Counts};
@@ -169,6 +169,7 @@ pub(crate) fn turn_at(cores: &mut [Core], place: usize, bus: &mut Bus)
     ensures turned { TurnsAt cores.old bus.old place cores.new bus.new }
     ensures order { IsInOrder cores.new bus.new }
     ensures left { steps_left cores.new < steps_left cores.old }
+    ensures access { TellsAccess cores.old bus.old place bus.new }
 {
     let _ = cores[place].stop();
     turn_core(&mut cores[place], bus);

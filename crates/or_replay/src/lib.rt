@@ -2,12 +2,15 @@
 #![tactic(auto)]
 
 mod board;
+mod follow;
 mod opening;
 mod readers;
 mod reporting;
 mod rounds;
+mod watching;
 
 pub use board::{Board, Refused};
+pub use follow::TurnFault;
 pub use opening::OpenFault;
 pub use reporting::{core_text, report};
 pub use rounds::{Finished, run_rounds};

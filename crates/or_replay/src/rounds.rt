@@ -1,5 +1,5 @@
 //! A run on one thread: turns by rounds, until every core has stopped.
-ghost use Rattle.std.specs.Prelude.{◌≡◌, ◌≤◌, ◌<◌, ◌++◌, [], ◌∷◌, ℕ, List, None, length, IfOk, OnOk, MatchOption, MatchResult};
+ghost use Rattle.std.specs.Prelude.{◌≡◌, ◌≤◌, ◌<◌, ◌++◌, [], ◌∷◌, ℕ, List, None, length, IfOk, IfSome, OnOk, MatchOption, MatchResult};
 ghost use Rattle.std.specs.List.{All};
 ghost use Rattle.or_words.specs.Settings.{Fits, ram_bytes};
 ghost use Rattle.or_elf.specs.Fault.{elf_fault};
@@ -8,7 +8,7 @@ ghost use Rattle.or_replay.specs.Start.{start};
 ghost use Rattle.or_replay.specs.Opening.{FailsToOpen};
 ghost use Rattle.or_model.specs.Turn.{Board as BoardModel};
 ghost use Rattle.or_replay.specs.Board.{IsBoard, RunsAt, steps_left};
-ghost use Rattle.or_replay.specs.Rounds.{IsFinished, AreStoppedFrom, Led, with_mark};
+ghost use Rattle.or_replay.specs.Rounds.{IsFinished, AreStoppedFrom, AreStoppedUpTo, Led, with_mark};
 
 use crate::board::Board;
 use crate::opening::OpenFault;
@@ -26,9 +26,10 @@ pub struct Finished {
 }
 
 // The first core that runs, from a number on.
-fn running_from(cores: &[Core], from: u8) -> Option<u8>
+pub(crate) fn running_from(cores: &[Core], from: u8) -> Option<u8>
     requires { length cores.now ≤ 8 }
-    ensures { MatchOption result (AreStoppedFrom from cores.now) (λ c. RunsAt cores.now c) }
+    ensures found { MatchOption result (AreStoppedFrom from cores.now) (λ c. RunsAt cores.now c) }
+    ensures first { IfSome result (λ c. AreStoppedUpTo from c cores.now) }
 {
     let mut c = from;
     while usize::from(c) < cores.len() {

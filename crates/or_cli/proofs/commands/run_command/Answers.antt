@@ -1,4 +1,4 @@
-use Rattle.or_command_line.specs.Command.{run_names}
+use Rattle.or_command_line.specs.Names.{run_names}
 use Rattle.or_command.specs.Ends.{end_of}
 use Rattle.or_command.specs.Outcomes.{LeavesAll}
 use Rattle.or_command.proofs.OutcomesLemmas.{concluded, said_leaves_all}

@@ -1,7 +1,7 @@
 use Rattle.std.proofs.Common.{ap, subst, ℕ, List}
 use Rattle.std.specs.Prelude.{Vec}
 use Rattle.std.specs.declared.alloc.Global.{Global}
-use Rattle.or_command_line.specs.Command.{run_names}
+use Rattle.or_command_line.specs.Names.{run_names}
 use Rattle.or_command.specs.Loads.{bytes_of}
 use Rattle.or_command.specs.Ends.{end_of}
 use Rattle.or_cli.specs.Finish.{FinishEnds}

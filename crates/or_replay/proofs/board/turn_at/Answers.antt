@@ -1,4 +1,4 @@
-use Rattle.std.proofs.Common.{◌≡◌, ◌∙◌, Some, None}
+use Rattle.std.proofs.Common.{◌∙◌}
 use Rattle.std.specs.Prelude.{slice_index_or}
 use Rattle.or_replay.proofs.Turning.{has_room, turned_at, order_stays, steps_lessen, get_is}
 use Rattle.or_replay.proofs.board.turn_at.Goals as goal

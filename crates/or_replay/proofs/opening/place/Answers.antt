@@ -1,6 +1,4 @@
-use Rattle.std.proofs.Common.{rules, arith, ◌≡◌, ◌∙◌, ap, ◌+◌, ◌-◌, ◌≤◌, take, drop, length}
-use Rattle.std.proofs.lemmas.Grind.{common_steps}
-use Rattle.or_mem.specs.Memory.{overwritten, zeroed}
+use Rattle.std.proofs.Common.{ap}
 use Rattle.or_replay.proofs.Placing.{placed_segment}
 use Rattle.or_replay.proofs.opening.place.Goals as goal
 

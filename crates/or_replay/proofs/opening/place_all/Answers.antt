@@ -1,6 +1,5 @@
 use Rattle.std.proofs.Common.{rules, ◌≡◌, ◌∷◌, ap, sym, ◌∙◌, subst, length, ℕ}
 use Rattle.std.specs.List.{All, fold}
-use Rattle.or_elf.specs.declared.segment.Segment.{Segment}
 use Rattle.or_elf.specs.Fault.{IsInside}
 use Rattle.or_elf.specs.Placed.{place_segment}
 use Rattle.or_replay.proofs.Placing.{all_later}

@@ -1,0 +1,64 @@
+-- The files that a command on an image, a console's input and a recording loads.
+use Rattle.std.specs.Prelude.{ℕ, List, [], ◌∷◌, ◌++◌, Bool, Option, Some, None, codes, if◌then◌else◌, slice_index_or}
+use Rattle.std.specs.Str.{bytes_eq}
+use Rattle.or_command.specs.Loads.{Load}
+use Rattle.or_command.specs.Lines.{image_line}
+use Rattle.or_command.specs.Ends.{FailedCheck}
+use Rattle.or_elf.specs.declared.fault.ElfFault.{ElfFault}
+use Rattle.or_elf.specs.Fault.{number_of, place_of}
+
+-- the limits of an image, of an input and of a recording, in bytes
+abbrev pub image_limit : ℕ
+image_limit = 67108864
+
+abbrev pub input_limit : ℕ
+input_limit = 1048576
+
+abbrev pub recording_limit : ℕ
+recording_limit = 671088640
+
+-- `-` stands for no input, and is not loaded
+abbrev pub is_no_input : List ℕ → Bool
+is_no_input name = bytes_eq name (codes "-")
+
+abbrev pub input_loads : List ℕ → List Load
+input_loads name = if is_no_input name then [] else record { name = name; limit = input_limit } ∷ []
+
+abbrev pub image_loads : List ℕ → List ℕ → List Load
+image_loads image input = record { name = image; limit = image_limit } ∷ input_loads input
+
+-- with a recording of the run behind them
+abbrev pub recorded_loads : List ℕ → List ℕ → List ℕ → List Load
+recorded_loads image input recording = image_loads image input ++ record { name = recording; limit = recording_limit } ∷ []
+
+-- the image's bytes among those that were loaded, and the input's, which are none where none was loaded
+abbrev pub image_in : List (List ℕ) → List ℕ
+image_in [] = []
+image_in (image ∷ others) = image
+
+abbrev pub input_in : List (List ℕ) → List ℕ
+input_in [] = []
+input_in (image ∷ []) = []
+input_in (image ∷ input ∷ others) = input
+
+-- the check of an image
+abbrev pub image_check : List ℕ → Option ElfFault → Option FailedCheck
+image_check name None = None
+image_check name (Some fault) = Some (record { status = 3; line = image_line name (number_of fault) (place_of fault) })
+
+-- the file at a place among those that were loaded
+abbrev pub file_at : List (List ℕ) → ℕ → List ℕ
+file_at files place = slice_index_or files place []
+
+-- the bytes of a recorded run's files: where no input was loaded, it is empty, and the recording is the second file
+pub record RecordedBytes : Type 0 where
+  pub image : List ℕ
+  pub input : List ℕ
+  pub recording : List ℕ
+
+abbrev pub recorded_bytes : Bool → List (List ℕ) → RecordedBytes
+recorded_bytes no_input files = record {
+  image = file_at files 0;
+  input = if no_input then [] else file_at files 1;
+  recording = if no_input then file_at files 1 else file_at files 2;
+}

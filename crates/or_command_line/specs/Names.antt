@@ -1,0 +1,68 @@
+-- The names of files that a command line gives.
+use Rattle.std.specs.Prelude.{ℕ, List, Bool, false, ◌≡◌, ◌≢◌, ◌&&◌, codes}
+use Rattle.std.specs.Str.{bytes_eq}
+use Rattle.or_command_line.specs.declared.Run.{Run}
+use Rattle.or_command_line.specs.declared.Recorded.{Recorded as RecordedWords}
+use Rattle.or_command_line.specs.Words.{is_name, is_input, differ, IsFileName}
+
+-- the files of a recorded run, with `-` for no input
+pub record Recorded : Type 0 where
+  pub image : List ℕ
+  pub input : List ℕ
+  pub schedule : List ℕ
+
+-- the files of a run
+pub record Names : Type 0 where
+  pub image : List ℕ
+  pub input : List ℕ
+  pub schedule : List ℕ
+  pub report : List ℕ
+
+-- the recorded run that a run leaves
+abbrev pub recorded : Names → Recorded
+recorded names = record { image = names.image; input = names.input; schedule = names.schedule }
+
+-- what the code's names show
+abbrev pub recorded_names : RecordedWords → Recorded
+recorded_names words = record { image = words.image.now; input = words.input.now; schedule = words.schedule.now }
+
+abbrev pub run_names : Run → Names
+run_names words = record { image = words.image.now; input = words.input.now; schedule = words.schedule.now; report = words.report.now }
+
+-- all words are names
+abbrev pub are_recorded : Recorded → Bool
+are_recorded files = is_name files.image && (is_input files.input && is_name files.schedule)
+
+-- a report's name, which differs from each other one
+abbrev pub is_report : Recorded → List ℕ → Bool
+is_report files report = is_name report && ((differ report files.image && differ report files.input) && differ report files.schedule)
+
+-- a run also writes the schedule
+abbrev pub are_run_names : Names → Bool
+are_run_names names =
+    (are_recorded (recorded names) && is_report (recorded names) names.report)
+    && (differ names.schedule names.image && differ names.schedule names.input)
+
+-- what names are to a host: those that are written differ from each other name
+pub record AreRecorded (files : Recorded) : Type 0 where
+  pub image : IsFileName files.image
+  pub input : bytes_eq files.input (codes "-") ≡ false → IsFileName files.input
+  pub schedule : IsFileName files.schedule
+
+pub record IsReport (files : Recorded) (report : List ℕ) : Type 0 where
+  pub name : IsFileName report
+  pub image : report ≢ files.image
+  pub input : report ≢ files.input
+  pub schedule : report ≢ files.schedule
+
+pub record AreWritten (names : Names) : Type 0 where
+  pub files : AreRecorded (recorded names)
+  pub report : IsReport (recorded names) names.report
+  pub schedule_image : names.schedule ≢ names.image
+  pub schedule_input : names.schedule ≢ names.input
+
+-- a source, and the image that is written of it
+pub record IsAssembly (source image : List ℕ) : Type 0 where
+  pub source_name : IsFileName source
+  pub image_name : IsFileName image
+  pub apart : image ≢ source

@@ -1,0 +1,113 @@
+//! The options behind the names.
+ghost use Rattle.std.specs.Prelude.{◌≡◌, None, Some, MatchOption, IfSome, IsTrue};
+ghost use Rattle.or_words.specs.Settings.{Fits};
+ghost use Rattle.or_command_line.specs.Words.{texts};
+ghost use Rattle.or_command_line.specs.Settings.{option_of, latch_of, config_of, config_fits, every_of, every_fits, FitsEvery};
+
+use or_text::numerals::read_decimal;
+use or_words::Config;
+
+// An option with a number, which may be left out; the words behind it.
+fn option<'a>(name: &str, default: u32, words: &'a [String]) -> Option<(u32, &'a [String])>
+    ensures { MatchOption result (option_of name.now default (texts words.now) ≡ None)
+        (λ found. option_of name.now default (texts words.now) ≡ Some (found.0, texts found.1.now)) }
+{
+    let Some((word, rest)) = words.split_first() else {
+        return Some((default, words));
+    };
+    if word.as_str() != name {
+        return Some((default, words));
+    }
+    let Some((value, rest)) = rest.split_first() else {
+        return None;
+    };
+    match read_decimal(value.as_bytes()) {
+        Some(number) => Some((number, rest)),
+        None => None,
+    }
+}
+
+// Whether the PIC latches; the words behind.
+fn latch(words: &[String]) -> Option<(bool, &[String])>
+    ensures { MatchOption result (latch_of (texts words.now) ≡ None) (λ found. latch_of (texts words.now) ≡ Some (found.0, texts found.1.now)) }
+{
+    let Some((word, rest)) = words.split_first() else {
+        return Some((false, words));
+    };
+    if word.as_str() != "--pic" {
+        return Some((false, words));
+    }
+    let Some((value, rest)) = rest.split_first() else {
+        return None;
+    };
+    if value.as_str() == "latched" {
+        Some((true, rest))
+    } else {
+        None
+    }
+}
+
+// The settings are in their ranges.
+fn fits(config: &Config) -> bool
+    ensures test { result ≡ config_fits config.now }
+    ensures fits { IsTrue result → Fits config.now }
+{
+    (1 <= config.cores && config.cores <= 8)
+        && ((1 <= config.budget && config.budget <= 67_108_864)
+            && (1 <= config.ram && config.ram <= 256))
+}
+
+// The settings that the options give.
+#[tactic(auto, unfolding(crate::specs::Settings::config_of))]
+pub(crate) fn settings(words: &[String]) -> Option<Config>
+    ensures value { result ≡ config_of (texts words.now) }
+    ensures fits { IfSome result Fits }
+{
+    let Some((cores, rest)) = option("--cores", 1, words) else {
+        return None;
+    };
+    let Some((budget, rest)) = option("--budget", 1_000_000, rest) else {
+        return None;
+    };
+    let Some((ram, rest)) = option("--ram", 32, rest) else {
+        return None;
+    };
+    let Some((latched, rest)) = latch(rest) else {
+        return None;
+    };
+    let config = Config {
+        cores,
+        budget,
+        ram,
+        latched,
+    };
+    if rest.is_empty() && fits(&config) {
+        Some(config)
+    } else {
+        None
+    }
+}
+
+// Turns between two checkpoints: 1 to 2^29.
+fn every_fits(every: u32) -> bool
+    ensures test { result ≡ every_fits every }
+    ensures fits { IsTrue result → FitsEvery every }
+{
+    1 <= every && every <= 536_870_912
+}
+
+/// The number of turns between two checkpoints that the option gives.
+#[tactic(auto, unfolding(crate::specs::Settings::every_of))]
+pub(crate) fn every(words: &[String]) -> Option<u32>
+    ensures value { result ≡ every_of (texts words.now) }
+    ensures fits { IfSome result FitsEvery }
+{
+    let Some((every, rest)) = option("--every", 1_048_576, words) else {
+        return None;
+    };
+    if rest.is_empty() && every_fits(every) {
+        Some(every)
+    } else {
+        None
+    }
+}

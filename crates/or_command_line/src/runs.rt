@@ -1,0 +1,158 @@
+//! The commands that make a recorded run, or follow one.
+ghost use Rattle.std.specs.Prelude.{◌≡◌, None, Some, MatchOption, IfSome, IsTrue};
+ghost use Rattle.or_words.specs.Settings.{Fits};
+ghost use Rattle.or_command_line.specs.Words.{texts};
+ghost use Rattle.or_command_line.specs.Names.{run_names, recorded_names, are_run_names, AreRecorded, AreWritten};
+ghost use Rattle.or_command_line.specs.Command.{run_of, replay_of, debug_of, back_of, recorded_of, as_race, as_prof, shown_command, AreNamesOf};
+
+use crate::names::{are_recorded, is_name, is_report};
+use crate::options::{every, settings};
+use crate::{Command, Recorded, Run};
+
+/// `IMAGE INPUT SCHED REPORT` and options.
+#[tactic(auto, unfolding(crate::specs::Command::run_of))]
+pub(crate) fn parse_run(words: &[String]) -> Option<Command<'_>>
+    ensures command { MatchOption result (run_of (texts words.now) ≡ None) (λ command. run_of (texts words.now) ≡ Some (shown_command command)) }
+    ensures names { IfSome result (λ command. AreNamesOf (shown_command command)) }
+{
+    let [image, input, schedule, report, options @ ..] = words else {
+        return None;
+    };
+    let files = Recorded {
+        image: image.as_str(),
+        input: input.as_str(),
+        schedule: schedule.as_str(),
+    };
+    let report = report.as_str();
+    if !(are_recorded(&files) && is_report(&files, report)) {
+        return None;
+    }
+    if files.schedule == files.image || files.schedule == files.input {
+        return None;
+    }
+    match settings(options) {
+        Some(config) => Some(Command::Run(Run {
+            image: files.image,
+            input: files.input,
+            schedule: files.schedule,
+            report,
+            config,
+        })),
+        None => None,
+    }
+}
+
+/// `IMAGE INPUT SCHED REPORT`.
+#[tactic(auto, unfolding(crate::specs::Command::replay_of))]
+pub(crate) fn parse_replay(words: &[String]) -> Option<Command<'_>>
+    ensures command { MatchOption result (replay_of (texts words.now) ≡ None) (λ command. replay_of (texts words.now) ≡ Some (shown_command command)) }
+    ensures names { IfSome result (λ command. AreNamesOf (shown_command command)) }
+{
+    let [image, input, schedule, report] = words else {
+        return None;
+    };
+    let files = Recorded {
+        image: image.as_str(),
+        input: input.as_str(),
+        schedule: schedule.as_str(),
+    };
+    let report = report.as_str();
+    if are_recorded(&files) && is_report(&files, report) {
+        Some(Command::Replay { files, report })
+    } else {
+        None
+    }
+}
+
+/// `IMAGE INPUT SCHED SCRIPT`.
+#[tactic(auto, unfolding(crate::specs::Command::debug_of))]
+pub(crate) fn parse_debug(words: &[String]) -> Option<Command<'_>>
+    ensures command { MatchOption result (debug_of (texts words.now) ≡ None) (λ command. debug_of (texts words.now) ≡ Some (shown_command command)) }
+    ensures names { IfSome result (λ command. AreNamesOf (shown_command command)) }
+{
+    let [image, input, schedule, script] = words else {
+        return None;
+    };
+    let files = Recorded {
+        image: image.as_str(),
+        input: input.as_str(),
+        schedule: schedule.as_str(),
+    };
+    let script = script.as_str();
+    if are_recorded(&files) && is_name(script) {
+        Some(Command::Debug { files, script })
+    } else {
+        None
+    }
+}
+
+/// `IMAGE INPUT SCHED SCRIPT` and an option.
+#[tactic(auto, unfolding(crate::specs::Command::back_of))]
+pub(crate) fn parse_back(words: &[String]) -> Option<Command<'_>>
+    ensures command { MatchOption result (back_of (texts words.now) ≡ None) (λ command. back_of (texts words.now) ≡ Some (shown_command command)) }
+    ensures names { IfSome result (λ command. AreNamesOf (shown_command command)) }
+{
+    let [image, input, schedule, script, options @ ..] = words else {
+        return None;
+    };
+    let files = Recorded {
+        image: image.as_str(),
+        input: input.as_str(),
+        schedule: schedule.as_str(),
+    };
+    let script = script.as_str();
+    if !(are_recorded(&files) && is_name(script)) {
+        return None;
+    }
+    match every(options) {
+        Some(every) => Some(Command::Back {
+            files,
+            script,
+            every,
+        }),
+        None => None,
+    }
+}
+
+// `IMAGE INPUT SCHED`.
+#[tactic(auto, unfolding(crate::specs::Command::recorded_of))]
+fn recorded_files(words: &[String]) -> Option<Recorded<'_>>
+    ensures files { MatchOption result (recorded_of (texts words.now) ≡ None) (λ files. recorded_of (texts words.now) ≡ Some (recorded_names files)) }
+    ensures names { IfSome result (λ files. AreRecorded (recorded_names files)) }
+{
+    let [image, input, schedule] = words else {
+        return None;
+    };
+    let files = Recorded {
+        image: image.as_str(),
+        input: input.as_str(),
+        schedule: schedule.as_str(),
+    };
+    if are_recorded(&files) {
+        Some(files)
+    } else {
+        None
+    }
+}
+
+/// `IMAGE INPUT SCHED` of `race`.
+pub(crate) fn parse_race(words: &[String]) -> Option<Command<'_>>
+    ensures command { MatchOption result (as_race (recorded_of (texts words.now)) ≡ None) (λ command. as_race (recorded_of (texts words.now)) ≡ Some (shown_command command)) }
+    ensures names { IfSome result (λ command. AreNamesOf (shown_command command)) }
+{
+    match recorded_files(words) {
+        Some(files) => Some(Command::Race { files }),
+        None => None,
+    }
+}
+
+/// `IMAGE INPUT SCHED` of `prof`.
+pub(crate) fn parse_prof(words: &[String]) -> Option<Command<'_>>
+    ensures command { MatchOption result (as_prof (recorded_of (texts words.now)) ≡ None) (λ command. as_prof (recorded_of (texts words.now)) ≡ Some (shown_command command)) }
+    ensures names { IfSome result (λ command. AreNamesOf (shown_command command)) }
+{
+    match recorded_files(words) {
+        Some(files) => Some(Command::Prof { files }),
+        None => None,
+    }
+}

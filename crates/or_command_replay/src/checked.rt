@@ -1,0 +1,179 @@
+//! The checks of a recorded run, in their order: the recording's text, the digests of the image and of the input, the image,
+//! and then the turns with their marks.
+ghost use Rattle.std.specs.Prelude.{◌≡◌, ◌≢◌, ◌≤◌, ◌⊎◌, ◌/◌, [], ℕ, List, Some, None, Err, true, false, IfOk, MatchResult, length};
+ghost use Rattle.sha2.specs.Sha256.{sha256};
+ghost use Rattle.or_words.specs.Settings.{Fits, ram_bytes};
+ghost use Rattle.or_elf.specs.Fault.{elf_fault};
+ghost use Rattle.or_sched.specs.Recording.{IsRecording};
+ghost use Rattle.or_model.specs.Turn.{Board as BoardModel};
+ghost use Rattle.or_replay.specs.Start.{start};
+ghost use Rattle.or_replay.specs.Board.{IsBoard};
+ghost use Rattle.or_replay.specs.Following.{IsFollowed, IsFollowable};
+ghost use Rattle.or_command_replay.specs.Checked.{TextFault, IsFirstFault, IsOfRun, IsOpenFault, AreOfBlocks, IsRefusedBy, LeadsToEnd, IsRunChecked};
+
+use or_command::Digests;
+use or_command_image::RecordedFiles;
+use or_elf::ElfFault;
+use or_replay::{Board, OpenFault, TurnFault};
+use or_sched::{Head, Mark, Reader, RecFault};
+use or_words::Config;
+use sha2::{Digest, Sha256};
+use std::alloc::Global;
+
+/// The first check of a recorded run that fails.
+#[derive(Clone, Copy)]
+pub enum RunFault {
+    /// The recording's text, which ends too early or has this fault; never NoMemory.
+    Text(RecFault),
+    /// The digest of the image.
+    Image(Digests),
+    /// The digest of the input.
+    Input(Digests),
+    /// The image has this fault.
+    Elf(ElfFault),
+    /// The turns can't be followed.
+    Turns(TurnFault),
+    /// Memory ran out, and no check failed before.
+    NoMemory,
+}
+
+/// What a recording tells: the settings and digests, the turns, and the marks of their blocks, which version 1 has not.
+#[derive(Drop)]
+pub struct Recording {
+    pub head: Head,
+    pub turns: Vec<u8>,
+    pub marks: Vec<Mark>,
+}
+
+/// A recorded run whose checks have passed: its recording, and the board to which it leads.
+#[derive(Drop)]
+pub struct Checked {
+    pub recording: Recording,
+    pub board: Board,
+}
+
+/// Makes the checks of a recorded run in their order, and follows it to its end.
+///
+/// Errors: the first check that fails; NoMemory.
+pub fn check(alloc: Global, files: RecordedFiles<'_>) -> Result<Checked, RunFault>
+    requires limit { length files.image.now ≤ 67108864 }
+    ensures { MatchResult result (λ run. IsRunChecked files.entry.image.now files.entry.input.now files.entry.recording.now run)
+        (λ fault. IsFirstFault files.entry.image.now files.entry.input.now files.entry.recording.now fault) }
+{
+    match read(alloc, files.recording) {
+        Ok(recording) => check_digests(alloc, recording, files.image, files.input),
+        Err(RecFault::NoMemory) => Err(RunFault::NoMemory),
+        Err(fault) => Err(RunFault::Text(fault)),
+    }
+}
+
+// Reads a recording.
+#[tactic(auto, using(crate::proofs::Recorded::recorded))]
+fn read(alloc: Global, text: &[u8]) -> Result<Recording, RecFault>
+    ensures read { MatchResult result (λ read. IsRecording text.now read.head read.turns.items read.marks.items) (λ fault. TextFault text.now fault) }
+    ensures fits { IfOk result (λ read. Fits read.head.config) }
+    ensures marks { IfOk result (λ read. AreOfBlocks read.turns.items read.marks.items) }
+{
+    let mut turns = Vec::new(alloc);
+    let mut marks = Vec::new(alloc);
+    let mut reader = Reader::new();
+    let _ = reader.feed(text, &mut turns, &mut marks);
+    match reader.finish() {
+        Ok(()) => {
+            let head = reader.head().unwrap();
+            Ok(Recording { head, turns, marks })
+        }
+        Err(fault) => Err(fault),
+    }
+}
+
+// The checks behind the text.
+fn check_digests(
+    alloc: Global,
+    recording: Recording,
+    image: &[u8],
+    input: &[u8],
+) -> Result<Checked, RunFault>
+    requires limit { length image.now ≤ 67108864 }
+    requires fits { Fits recording.head.config }
+    requires marks { AreOfBlocks recording.turns.items recording.marks.items }
+    ensures { (text : List ℕ) → IsRecording text recording.head recording.turns.items recording.marks.items
+        → MatchResult result (λ run. IsRunChecked image.now input.now text run) (λ fault. IsFirstFault image.now input.now text fault) }
+{
+    match compare(recording.head.image, image) {
+        Err(digests) => Err(RunFault::Image(digests)),
+        Ok(()) => match compare(recording.head.input, input) {
+            Err(digests) => Err(RunFault::Input(digests)),
+            Ok(()) => check_turns(alloc, recording, image, input),
+        },
+    }
+}
+
+// Compares the digest of a file with the recorded one.
+fn compare(recorded: [u8; 32], file: &[u8]) -> Result<(), Digests>
+    ensures { MatchResult result (λ _. recorded ≡ sha256 file.now)
+        (λ digests. (digests.recorded ≡ recorded) × (digests.found ≡ sha256 file.now) × (recorded ≢ sha256 file.now)) }
+{
+    let found = Sha256::digest(file);
+    if recorded == found {
+        return Ok(());
+    }
+    Err(Digests { recorded, found })
+}
+
+// The checks behind the digests.
+fn check_turns(
+    alloc: Global,
+    recording: Recording,
+    image: &[u8],
+    input: &[u8],
+) -> Result<Checked, RunFault>
+    requires limit { length image.now ≤ 67108864 }
+    requires fits { Fits recording.head.config }
+    requires marks { AreOfBlocks recording.turns.items recording.marks.items }
+    ensures { (text : List ℕ) → IsOfRun image.now input.now text recording.head recording.turns.items recording.marks.items
+        → MatchResult result (λ run. IsRunChecked image.now input.now text run) (λ fault. IsFirstFault image.now input.now text fault) }
+{
+    match open_board(alloc, &recording.head.config, image, input) {
+        Ok(board) => match follow(board, recording) {
+            Ok(run) => Ok(run),
+            Err(fault) => Err(RunFault::Turns(fault)),
+        },
+        Err(OpenFault::Elf(fault)) => Err(RunFault::Elf(fault)),
+        Err(OpenFault::NoMemory) => Err(RunFault::NoMemory),
+    }
+}
+
+/// The board at the start of a run. Errors: Elf exactly where the image has this fault, memory aside; NoMemory.
+pub fn open_board(
+    alloc: Global,
+    config: &Config,
+    image: &[u8],
+    input: &[u8],
+) -> Result<Board, OpenFault>
+    requires limit { length image.now ≤ 67108864 }
+    requires fits { Fits config.now }
+    ensures { MatchResult result
+        (λ board. (elf_fault image.now (ram_bytes config.now) ≡ None) × IsBoard board.cores board.bus (start config.now image.now input.now))
+        (λ fault. IsOpenFault image.now (ram_bytes config.now) fault) }
+{
+    let Ok(bytes) = Vec::from_slice(alloc, input) else {
+        return Err(OpenFault::NoMemory);
+    };
+    match Board::open(alloc, config, image, bytes) {
+        Ok(board) => Ok(board),
+        Err(fault) => Err(fault),
+    }
+}
+
+// Follows the turns with their marks.
+fn follow(mut board: Board, recording: Recording) -> Result<Checked, TurnFault>
+    requires marks { AreOfBlocks recording.turns.items recording.marks.items }
+    ensures { (first : BoardModel) → IsBoard board.cores board.bus first
+        → MatchResult result (λ run. LeadsToEnd first recording run) (λ fault. IsRefusedBy first recording.turns.items recording.marks.items fault) }
+{
+    match board.follow(&recording.turns, &recording.marks) {
+        Ok(()) => Ok(Checked { recording, board }),
+        Err(fault) => Err(fault),
+    }
+}

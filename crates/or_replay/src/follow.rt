@@ -1,0 +1,141 @@
+//! Following a schedule, with the marks that were kept of it.
+ghost use Rattle.std.specs.Prelude.{◌≡◌, ◌≤◌, ◌<◌, ◌/◌, ◌+◌, ◌⊎◌, [], ℕ, List, Some, None, MatchOption, MatchResult, length, true};
+ghost use Rattle.or_model.specs.Turn.{Board as BoardModel};
+ghost use Rattle.or_sched.specs.declared.recording.Mark.{Mark as MarkModel};
+ghost use Rattle.or_replay.specs.Board.{IsBoard, all_stopped};
+ghost use Rattle.or_replay.specs.Following.{IsFollowed, IsFollowable, IsLed, IsAdvanced, IsCompared, IsFirstRunning, TellsOf, Differs};
+
+use crate::board::{Board, Refused};
+use crate::rounds::running_from;
+use or_core::Core;
+use or_sched::Mark;
+
+// How many turns a block has, of which a mark is kept.
+const BLOCK: usize = 65536;
+
+/// Why a schedule is not followed to its end. `kept` is the number in the mark that was kept, and `found` that of the board.
+#[derive(Clone, Copy, Debug, PartialEq, Eq)]
+pub enum TurnFault {
+    /// The turn at this place, counted from 0, names no core of the board.
+    NoCore { turn: u64 },
+    /// The turn at this place, counted from 0, names a core that has stopped.
+    Stopped { turn: u64 },
+    /// All turns were made, and this is the least core that has not stopped.
+    Running { core: u32 },
+    /// After so many turns the number of writes differs from that of the mark.
+    Writes { turn: u64, kept: u64, found: u64 },
+    /// After so many turns the number of console bytes differs from that of the mark.
+    Console { turn: u64, kept: u64, found: u64 },
+}
+
+impl Board {
+    /// Follows a schedule, and compares each mark after its block's last turn, its writes before its console. Where no marks
+    /// are given, none is compared. Afterwards every core has stopped.
+    ///
+    /// Errors: the first that refuses it, a turn, a mark, or, behind all of them, a core that has not stopped. The board is
+    /// left after the turns before a turn that is refused, and after the turns of the mark's block.
+    pub fn follow(&mut self, turns: &[u8], marks: &[Mark]) -> Result<(), TurnFault>
+        requires marks { (marks.now ≡ []) ⊎ (length marks.now ≡ length turns.now / 65536) }
+        ensures followed { (start : BoardModel) → IsBoard self.old.cores self.old.bus start
+            → IsFollowed 65536 start turns.now marks.now result self.new.cores self.new.bus }
+        ensures exact { (start : BoardModel) → IsBoard self.old.cores self.old.bus start
+            → MatchResult result (λ _. IsFollowable start turns.now marks.now) (λ _. IsFollowable start turns.now marks.now → ⊥) }
+        ensures config { self.new.config ≡ self.old.config }
+    {
+        follow_blocks(self, turns, marks, BLOCK)
+    }
+}
+
+// Follows a schedule of blocks of so many turns.
+fn follow_blocks(
+    board: &mut Board,
+    turns: &[u8],
+    marks: &[Mark],
+    block: usize,
+) -> Result<(), TurnFault>
+    requires block { 0 < block }
+    ensures followed { (start : BoardModel) → IsBoard board.old.cores board.old.bus start
+        → IsFollowed block start turns.now marks.now result board.new.cores board.new.bus }
+    ensures config { board.new.config ≡ board.old.config }
+{
+    for place in 0..turns.len() {
+        match advance(board, turns, place, marks, block) {
+            Ok(()) => {}
+            Err(fault) => return Err(fault),
+        }
+    }
+    match first_running(board.cores()) {
+        None => Ok(()),
+        Some(core) => Err(TurnFault::Running {
+            core: u32::from(core),
+        }),
+    }
+}
+
+// Makes the turn at a place, and compares the mark of the block that it ends.
+#[tactic(auto, using(crate::proofs::Followed::followed))]
+fn advance(
+    board: &mut Board,
+    turns: &[u8],
+    place: usize,
+    marks: &[Mark],
+    block: usize,
+) -> Result<(), TurnFault>
+    requires block { 0 < block }
+    requires inside { place < length turns.now }
+    ensures advanced { (start : BoardModel) → IsLed block start turns.now marks.now place board.old.cores board.old.bus
+        → IsAdvanced block start turns.now marks.now place result board.new.cores board.new.bus }
+    ensures config { board.new.config ≡ board.old.config }
+{
+    match board.turn(turns[place]) {
+        Ok(()) => compare(marks, place + 1, block, board.mark()),
+        Err(Refused::NoSuchCore) => Err(TurnFault::NoCore { turn: place as u64 }),
+        Err(Refused::CoreStopped) => Err(TurnFault::Stopped { turn: place as u64 }),
+    }
+}
+
+// Compares the mark of the block that so many turns end, where one was kept.
+#[tactic(auto, using(crate::proofs::Followed::followed))]
+fn compare(marks: &[Mark], made: usize, block: usize, here: Mark) -> Result<(), TurnFault>
+    requires block { 0 < block }
+    requires some { 0 < made }
+    ensures { IsCompared block marks.now made result here }
+{
+    if made % block != 0 {
+        return Ok(());
+    }
+    let ended = made / block - 1;
+    if ended >= marks.len() {
+        return Ok(());
+    }
+    compare_mark(made as u64, marks[ended], here)
+}
+
+// Compares a mark after so many turns.
+fn compare_mark(made: u64, mark: Mark, here: Mark) -> Result<(), TurnFault>
+    ensures { MatchResult result (λ _. mark ≡ here) (λ fault. TellsOf made fault × Differs mark here fault) }
+{
+    if mark.writes != here.writes {
+        return Err(TurnFault::Writes {
+            turn: made,
+            kept: mark.writes,
+            found: here.writes,
+        });
+    }
+    if mark.console != here.console {
+        return Err(TurnFault::Console {
+            turn: made,
+            kept: mark.console,
+            found: here.console,
+        });
+    }
+    Ok(())
+}
+
+// The first core that runs.
+fn first_running(cores: &[Core]) -> Option<u8>
+    requires { length cores.now ≤ 8 }
+    ensures { MatchOption result (all_stopped cores.now ≡ true) (λ c. IsFirstRunning cores.now c) }
+{
+    running_from(cores, 0)
+}
