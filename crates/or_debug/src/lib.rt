@@ -9,3 +9,6 @@ mod turns;
 
 pub use answering::session;
 pub use or_script::{ScriptFault, check};
+
+#[cfg(test)]
+mod tests;
