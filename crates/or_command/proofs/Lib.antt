@@ -4,3 +4,4 @@ pub mod WritesLemmas
 pub mod LoadsLemmas
 pub mod OutcomesLemmas
 pub mod CompleteLemmas
+pub mod FinishingLemmas

@@ -1,5 +1,5 @@
 -- From the parts of a command to its outcome, and from its outcome to what the files come to by themselves.
-use Rattle.std.proofs.Common.{◌≡◌, ◌∙◌, sym, subst, ℕ, List, [], ◌∷◌, ◌++◌, ◌+◌, Option, Some, None, true, inl, inr}
+use Rattle.std.proofs.Common.{◌≡◌, ◌∙◌, sym, subst, ℕ, List, [], ◌∷◌, ◌++◌, Option, Some, None, inl, inr}
 use Rattle.or_host.specs.Bytes.{Adds, AddsPrefix}
 use Rattle.or_host.specs.Told.{TellsSame, IsPrefixOfFile}
 use Rattle.or_host.specs.Counts.{Rose}

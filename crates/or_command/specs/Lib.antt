@@ -5,3 +5,4 @@ pub mod Lines
 pub mod Said
 pub mod Ends
 pub mod Outcomes
+pub mod Finishing

@@ -1,6 +1,6 @@
 -- What a reader tells of a recording that it has read to its end.
-use Rattle.std.proofs.Common.{◌≡◌, ◌∙◌, sym, ap, subst, ℕ, ◌/◌, List, [], ◌++◌, length, Option, Some, None, refl}
-use Rattle.std.specs.Prelude.{◌⊎◌, Result, Ok, Err, MatchResult}
+use Rattle.std.proofs.Common.{◌≡◌, ◌∙◌, sym, ap, subst, ℕ, List, [], ◌++◌, length, Option, Some, None}
+use Rattle.std.specs.Prelude.{Ok, Err}
 use Rattle.std.proofs.Common.{inl, inr}
 use Rattle.or_words.specs.Settings.{Fits}
 use Rattle.or_sched.specs.declared.recording.Head.{Head}
@@ -9,8 +9,8 @@ use Rattle.or_sched.specs.declared.recording.RecFault.{RecFault}
 use Rattle.or_sched.specs.declared.recording.RecFault.TheVariants.{BadHead, BadRun, Short, NoMemory}
 use Rattle.or_sched.specs.declared.reader.Reader.{Reader}
 use Rattle.or_sched.specs.Recording.{IsRecording}
-use Rattle.or_sched.specs.Reading.{HasRead, Fed, FinishIs, IsWhole, kept_head}
-use Rattle.std.proofs.Common.{arith, take}
+use Rattle.or_sched.specs.Reading.{HasRead, Fed, FinishIs, IsWhole}
+use Rattle.std.proofs.Common.{arith}
 use Rattle.std.proofs.lemmas.List.{take_all}
 use Rattle.or_words.specs.Settings.{ram_bytes}
 use Rattle.or_elf.specs.Fault.{elf_fault}

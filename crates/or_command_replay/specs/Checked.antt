@@ -15,7 +15,7 @@ use Rattle.or_model.specs.Turn.{Board, replay}
 use Rattle.or_bus.specs.State.{BusState}
 use Rattle.or_command.specs.declared.refusal.Digests.{Digests}
 use Rattle.or_replay.specs.Start.{start}
-use Rattle.or_replay.specs.Board.{IsBoard, all_stopped}
+use Rattle.or_replay.specs.Board.{IsBoard}
 use Rattle.or_replay.specs.declared.follow.TurnFault.{TurnFault}
 use Rattle.or_replay.specs.Following.{Followed, IsFollowable}
 use Rattle.or_replay.specs.declared.opening.OpenFault.{OpenFault}

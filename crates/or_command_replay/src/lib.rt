@@ -2,5 +2,9 @@
 #![tactic(auto)]
 
 mod checked;
+mod refused;
+mod replaying;
 
-pub use checked::{Checked, RunFault, check};
+pub use checked::{Checked, Recording, RunFault, check, open_board};
+pub use refused::refuse;
+pub use replaying::replay;

@@ -1,0 +1,36 @@
+-- How a command ends that goes on with the files that it has loaded.
+use Rattle.std.specs.Prelude.{◌≡◌, ℕ, List, Option, Some, None}
+use Rattle.or_host.specs.HostState.{HostState}
+use Rattle.or_command.specs.Writes.{File, AllWritten, WriteStopped}
+use Rattle.or_command.specs.Ends.{FailedCheck, CommandEnd, done, unread, too_long, refused, unwritten, no_memory}
+
+-- the outputs are written, or a write of them fails
+abbrev pub WritesEnd : List File → List ℕ → CommandEnd → HostState → HostState → Type 0
+WritesEnd files console done old new = AllWritten files console old new
+WritesEnd files console (unwritten name) old new = WriteStopped files console name old new
+WritesEnd files console (unread name) old new = ⊥
+WritesEnd files console (too_long name limit) old new = ⊥
+WritesEnd files console (refused fault) old new = ⊥
+WritesEnd files console no_memory old new = ⊥
+
+-- what a check comes to that fails, or that finds no memory
+abbrev pub end_of_check : Option FailedCheck → CommandEnd
+end_of_check None = no_memory
+end_of_check (Some check) = refused check
+
+-- a command as in Outcomes, by its verdict and by what it writes
+module _ (Verdict : List (List ℕ) → Option FailedCheck → Type 0) (Writes : List (List ℕ) → List File → List ℕ → Type 0) where
+  pub record WritesOf (files : List (List ℕ)) (end : CommandEnd) (old new : HostState) : Type 0 where
+    pub sound : Verdict files None
+    pub outs : List File
+    pub console : List ℕ
+    pub writes : Writes files outs console
+    pub ends : WritesEnd outs console end old new
+
+  abbrev pub GoesOn : List (List ℕ) → CommandEnd → HostState → HostState → Type 0
+  GoesOn files done old new = WritesOf files done old new
+  GoesOn files (unwritten name) old new = WritesOf files (unwritten name) old new
+  GoesOn files (refused fault) old new = Verdict files (Some fault) × (new ≡ old)
+  GoesOn files no_memory old new = new ≡ old
+  GoesOn files (unread name) old new = ⊥
+  GoesOn files (too_long name limit) old new = ⊥

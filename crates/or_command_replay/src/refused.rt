@@ -1,0 +1,71 @@
+//! How a command ends on a recorded run that a check refuses.
+ghost use Rattle.std.specs.Prelude.{◌≡◌};
+ghost use Rattle.or_command.specs.Lines.{schedule_line};
+ghost use Rattle.or_command.specs.Ends.{end_of, refused};
+ghost use Rattle.or_command.specs.Finishing.{end_of_check};
+ghost use Rattle.or_command_line.specs.Names.{recorded_names};
+ghost use Rattle.or_command_replay.specs.Replay.{turn_detail, text_check, fault_check};
+
+use crate::checked::RunFault;
+use or_command::{Outcome, Refusal, ScheduleDetail};
+use or_command_line::Recorded;
+use or_replay::TurnFault;
+use or_sched::RecFault;
+
+/// The end of a command on a recorded run whose first check that fails is this: NoMemory, or a refusal with status 4 or, for
+/// a fault of the image, 3.
+pub fn refuse<'a>(files: &Recorded<'a>, fault: RunFault) -> Outcome<'a>
+    ensures { end_of result ≡ end_of_check (fault_check (recorded_names files.now) fault) }
+{
+    match fault {
+        RunFault::Text(fault) => refuse_text(files.schedule, fault),
+        RunFault::Image(digests) => refuse_schedule(files.schedule, ScheduleDetail::Image(digests)),
+        RunFault::Input(digests) => refuse_schedule(files.schedule, ScheduleDetail::Input(digests)),
+        RunFault::Elf(fault) => Outcome::Refused(Refusal::Image {
+            name: files.image,
+            fault: fault.number(),
+            place: u64::from(fault.place()),
+        }),
+        RunFault::Turns(fault) => refuse_schedule(files.schedule, detail_of(fault)),
+        RunFault::NoMemory => Outcome::NoMemory,
+    }
+}
+
+fn refuse_text(name: &str, fault: RecFault) -> Outcome<'_>
+    ensures { end_of result ≡ end_of_check (text_check name.now fault) }
+{
+    match fault {
+        RecFault::BadHead { line } => refuse_schedule(name, ScheduleDetail::Head { line }),
+        RecFault::BadRun { at } => refuse_schedule(name, ScheduleDetail::At { place: at }),
+        RecFault::Short => refuse_schedule(name, ScheduleDetail::Short),
+        RecFault::NoMemory => Outcome::NoMemory,
+    }
+}
+
+fn refuse_schedule(name: &str, detail: ScheduleDetail) -> Outcome<'_>
+    ensures { end_of result ≡ refused (record { status = 4; line = schedule_line name.now detail }) }
+{
+    Outcome::Refused(Refusal::Schedule { name, detail })
+}
+
+// A turn of a core that the board has not is no turn of a recording's text.
+fn detail_of(fault: TurnFault) -> ScheduleDetail
+    ensures { result ≡ turn_detail fault }
+{
+    match fault {
+        TurnFault::NoCore { turn } | TurnFault::Stopped { turn } => {
+            ScheduleDetail::TurnStopped { turn }
+        }
+        TurnFault::Running { core } => ScheduleDetail::CoreRunning { core },
+        TurnFault::Writes { turn, kept, found } => ScheduleDetail::TurnWrites {
+            turn,
+            recorded: kept,
+            found,
+        },
+        TurnFault::Console { turn, kept, found } => ScheduleDetail::TurnConsole {
+            turn,
+            recorded: kept,
+            found,
+        },
+    }
+}
