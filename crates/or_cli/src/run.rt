@@ -12,8 +12,9 @@ ghost use Rattle.or_command.specs.Ends.{end_of};
 ghost use Rattle.or_command.specs.Outcomes.{CommandOutcome, LeavesAll};
 ghost use Rattle.or_command.specs.Loads.{bytes_of};
 ghost use Rattle.or_command_image.specs.Loaded.{image_in as image_of};
-ghost use Rattle.or_cli.specs.Run.{run_loads, run_check, head_of, IsRun, IsRunFrom, RunWrites};
-ghost use Rattle.or_cli.specs.Finish.{WriteEnds, FinishEnds, RunFails};
+ghost use Rattle.or_command.specs.Finishing.{WriteEnds};
+ghost use Rattle.or_command.specs.Answered.{FinishEnds};
+ghost use Rattle.or_cli.specs.Run.{run_loads, run_check, head_of, IsRun, IsRunFrom, RunWrites, RunFails};
 
 use or_board::Gate;
 use or_command::{LoadStop, Outcome, Output, Refusal, write_outputs};
@@ -121,7 +122,7 @@ fn finish<'a, R: Threads + Wait + Sync, H: Host, G: Gate + Sync>(
     requires names { AreWritten (run_names words.now) }
     requires fits { Fits words.now.config }
     requires limit { length (image_of (bytes_of files.now)) ≤ 67108864 }
-    ensures outcome { FinishEnds (run_names words.now) words.now.config (bytes_of files.now) (end_of result) (H.state host.old) (H.state host.new) }
+    ensures outcome { FinishEnds (run_check (run_names words.now) words.now.config) (RunWrites (run_names words.now) words.now.config) (bytes_of files.now) (end_of result) (H.state host.old) (H.state host.new) }
     ensures silent { Silent (H.state host.old) (H.state host.new) }
 {
     match make(
