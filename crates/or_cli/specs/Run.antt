@@ -1,5 +1,5 @@
 -- What the command `run` loads, checks and writes.
-use Rattle.std.specs.Prelude.{◌≡◌, ℕ, List, [], ◌∷◌, Option, Some, true, length, ⊤}
+use Rattle.std.specs.Prelude.{◌≡◌, ℕ, List, [], ◌∷◌, Option, Some, true, length}
 use Rattle.sha2.specs.Sha256.{sha256}
 use Rattle.or_words.specs.declared.Config.{Config}
 use Rattle.or_words.specs.Settings.{ram_bytes}
@@ -55,4 +55,4 @@ pub record RunWrites (names : Names) (config : Config) (files : List (List ℕ))
 -- why a run makes no texts: the image has this fault, or memory ran out
 abbrev pub RunFails : List ℕ → ℕ → OpenFault → Type 0
 RunFails image ram (Elf fault) = elf_fault image ram ≡ Some fault
-RunFails image ram NoMemory = ⊤
+RunFails image ram NoMemory = Unit {0}

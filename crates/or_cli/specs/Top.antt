@@ -1,41 +1,57 @@
 -- What the top call says of each command.
-use Rattle.std.specs.Prelude.{ℕ, List, Bool, true, false, ◌||◌, Option, Some, None, if◌then◌else◌}
+use Rattle.std.specs.Prelude.{ℕ, List, Bool, true, false, Option, Some, None, if◌then◌else◌}
 use Rattle.or_host.specs.HostState.{HostState}
 use Rattle.or_command_line.specs.Command.{Shown, command_of}
-use Rattle.or_command_line.specs.Command.Shown.{run, replay, asm, dis, gen}
+use Rattle.or_command_line.specs.Command.Shown.{run, replay, asm, dis, debug, gen, bench}
 use Rattle.or_command.specs.Lines.{usage_line}
 use Rattle.or_command.specs.Said.{SaidLine}
-use Rattle.or_command.specs.Outcomes.{LeavesAll, Computes}
-use Rattle.or_command.specs.Answered.{Answers, IsDecided}
+use Rattle.or_command.specs.Outcomes.{LeavesAll}
+use Rattle.or_command.specs.Answered.{Answers, AnswersBy, IsDecided, IsDecidedBy}
 use Rattle.or_command_replay.specs.Replay.{replay_loads, RecordedVerdict, ReplayWrites}
+use Rattle.or_command_debug.specs.Debug.{debug_loads, DebugVerdict, DebugWrites}
 use Rattle.or_command_source.specs.Assembly.{asm_loads, asm_check, AsmWrites}
 use Rattle.or_command_source.specs.Listing.{dis_loads, dis_check, DisWrites, DisLacks}
 use Rattle.or_command_source.specs.Generation.{gen_loads, gen_check, GenWrites}
 use Rattle.or_cli.specs.Run.{run_loads, run_check, RunWrites}
 
--- the commands whose cores wait for one another
-abbrev pub is_waiting : Shown → Bool
-is_waiting (run names config) = true
-is_waiting _ = false
+-- the commands that work cores on threads, and so wait
+abbrev pub is_threaded : Shown → Bool
+is_threaded (run names config) = true
+is_threaded (bench workload schedule) = true
+is_threaded _ = false
 
--- the commands that always return, as far as they are built
-abbrev pub is_alone : Shown → Bool
-is_alone (replay files report) = true
-is_alone (asm source image) = true
-is_alone (dis image) = true
-is_alone (gen workload source) = true
-is_alone _ = false
+-- the commands that the top call does
+abbrev pub is_done : Shown → Bool
+is_done (run names config) = true
+is_done (replay files report) = true
+is_done (asm source image) = true
+is_done (dis image) = true
+is_done (debug files script) = true
+is_done (gen workload source) = true
+is_done _ = false
 
-abbrev pub is_built : Shown → Bool
-is_built command = is_waiting command || is_alone command
+abbrev pub done_command : Option Shown → Option Shown
+done_command None = None
+done_command (Some command) = if is_done command then Some command else None
 
-abbrev pub only : (Shown → Bool) → Option Shown → Option Shown
-only test None = None
-only test (Some command) = if test command then Some command else None
+-- the command that the words are, among those that the top call does
+abbrev pub top_command : List (List ℕ) → Option Shown
+top_command words = done_command (command_of words)
 
--- the command that the words are, among those of a call
-abbrev pub command_among : (Shown → Bool) → List (List ℕ) → Option Shown
-command_among test words = only test (command_of words)
+abbrev pub of_threads : Option Shown → Option Shown
+of_threads None = None
+of_threads (Some command) = if is_threaded command then Some command else None
+
+abbrev pub of_one_thread : Option Shown → Option Shown
+of_one_thread None = None
+of_one_thread (Some command) = if is_threaded command then None else Some command
+
+-- that command, where it works cores on threads, and where it does not
+abbrev pub threaded_command : List (List ℕ) → Option Shown
+threaded_command words = of_threads (top_command words)
+
+abbrev pub lone_command : List (List ℕ) → Option Shown
+lone_command words = of_one_thread (top_command words)
 
 -- words that are no command: that is said, and nothing else happens
 pub record IsUsage (old new : HostState) : Type 0 where
@@ -44,18 +60,20 @@ pub record IsUsage (old new : HostState) : Type 0 where
 
 -- what stands after a command with this status
 abbrev pub CommandEnds : Shown → ℕ → HostState → HostState → Type 0
-CommandEnds (run names config) status old new = Answers (run_loads names) (Computes (run_check names config)) (RunWrites names config) LeavesAll status old new
-CommandEnds (replay files report) status old new = Answers (replay_loads files) (RecordedVerdict files) (ReplayWrites files report) LeavesAll status old new
-CommandEnds (asm source image) status old new = Answers (asm_loads source) (Computes (asm_check source)) (AsmWrites image) LeavesAll status old new
-CommandEnds (dis image) status old new = Answers (dis_loads image) (Computes (dis_check image)) DisWrites (DisLacks image) status old new
-CommandEnds (gen workload source) status old new = Answers gen_loads (Computes gen_check) (GenWrites workload source) LeavesAll status old new
+CommandEnds (run names config) status old new = Answers (run_loads names) (run_check names config) (RunWrites names config) LeavesAll status old new
+CommandEnds (replay files report) status old new = AnswersBy (replay_loads files) (RecordedVerdict files) (ReplayWrites files report) LeavesAll status old new
+CommandEnds (asm source image) status old new = Answers (asm_loads source) (asm_check source) (AsmWrites image) LeavesAll status old new
+CommandEnds (dis image) status old new = Answers (dis_loads image) (dis_check image) DisWrites (DisLacks image) status old new
+CommandEnds (debug files script) status old new = AnswersBy (debug_loads files script) (DebugVerdict files script) (DebugWrites files) LeavesAll status old new
+CommandEnds (gen workload source) status old new = Answers gen_loads gen_check (GenWrites workload source) LeavesAll status old new
 CommandEnds _ status old new = ⊥
 
--- where no fault came, its files decide its status, or memory ran out
+-- where no fault came, the files decide the status, or memory ran out
 abbrev pub IsComplete : Shown → ℕ → HostState → HostState → Type 0
-IsComplete (run names config) status old new = IsDecided (run_loads names) (Computes (run_check names config)) (RunWrites names config) LeavesAll status old new
-IsComplete (replay files report) status old new = IsDecided (replay_loads files) (RecordedVerdict files) (ReplayWrites files report) LeavesAll status old new
-IsComplete (asm source image) status old new = IsDecided (asm_loads source) (Computes (asm_check source)) (AsmWrites image) LeavesAll status old new
-IsComplete (dis image) status old new = IsDecided (dis_loads image) (Computes (dis_check image)) DisWrites (DisLacks image) status old new
-IsComplete (gen workload source) status old new = IsDecided gen_loads (Computes gen_check) (GenWrites workload source) LeavesAll status old new
+IsComplete (run names config) status old new = IsDecided (run_loads names) (run_check names config) (RunWrites names config) LeavesAll status old new
+IsComplete (replay files report) status old new = IsDecidedBy (replay_loads files) (RecordedVerdict files) (ReplayWrites files report) LeavesAll status old new
+IsComplete (asm source image) status old new = IsDecided (asm_loads source) (asm_check source) (AsmWrites image) LeavesAll status old new
+IsComplete (dis image) status old new = IsDecided (dis_loads image) (dis_check image) DisWrites (DisLacks image) status old new
+IsComplete (debug files script) status old new = IsDecidedBy (debug_loads files script) (DebugVerdict files script) (DebugWrites files) LeavesAll status old new
+IsComplete (gen workload source) status old new = IsDecided gen_loads gen_check (GenWrites workload source) LeavesAll status old new
 IsComplete _ status old new = ⊥

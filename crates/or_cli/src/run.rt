@@ -9,10 +9,11 @@ ghost use Rattle.or_elf.specs.Fault.{elf_fault};
 ghost use Rattle.or_command_line.specs.Names.{run_names, AreWritten};
 ghost use Rattle.or_command.specs.Leaves.{Silent};
 ghost use Rattle.or_command.specs.Ends.{end_of};
-ghost use Rattle.or_command.specs.Outcomes.{OutcomeBy, Computes, LeavesAll};
-ghost use Rattle.or_command.specs.Finishing.{WritesEnd, GoesOn};
+ghost use Rattle.or_command.specs.Outcomes.{CommandOutcome, LeavesAll};
 ghost use Rattle.or_command.specs.Loads.{bytes_of};
 ghost use Rattle.or_command_image.specs.Loaded.{image_in as image_of};
+ghost use Rattle.or_command.specs.Finishing.{WriteEnds};
+ghost use Rattle.or_command.specs.Answered.{FinishEnds};
 ghost use Rattle.or_cli.specs.Run.{run_loads, run_check, head_of, IsRun, IsRunFrom, RunWrites, RunFails};
 
 use or_board::Gate;
@@ -121,7 +122,7 @@ fn finish<'a, R: Threads + Wait + Sync, H: Host, G: Gate + Sync>(
     requires names { AreWritten (run_names words.now) }
     requires fits { Fits words.now.config }
     requires limit { length (image_of (bytes_of files.now)) ≤ 67108864 }
-    ensures outcome { GoesOn (Computes (run_check (run_names words.now) words.now.config)) (RunWrites (run_names words.now) words.now.config) (bytes_of files.now) (end_of result) (H.state host.old) (H.state host.new) }
+    ensures outcome { FinishEnds (run_check (run_names words.now) words.now.config) (RunWrites (run_names words.now) words.now.config) (bytes_of files.now) (end_of result) (H.state host.old) (H.state host.new) }
     ensures silent { Silent (H.state host.old) (H.state host.new) }
 {
     match make(
@@ -145,7 +146,7 @@ fn finish<'a, R: Threads + Wait + Sync, H: Host, G: Gate + Sync>(
 // Writes the texts.
 fn write<'a, H: Host>(words: &Run<'a>, texts: &RunTexts, host: &mut H) -> Outcome<'a>
     requires names { AreWritten (run_names words.now) }
-    ensures outcome { WritesEnd (record { name = words.now.schedule.now; text = texts.now.recording.items } ∷ record { name = words.now.report.now; text = texts.now.report.items } ∷ [])
+    ensures outcome { WriteEnds (record { name = words.now.schedule.now; text = texts.now.recording.items } ∷ record { name = words.now.report.now; text = texts.now.report.items } ∷ [])
         texts.now.console.items (end_of result) (H.state host.old) (H.state host.new) }
     ensures silent { Silent (H.state host.old) (H.state host.new) }
 {
@@ -174,7 +175,7 @@ pub(crate) fn run<'a, R: Threads + Wait + Sync, H: Host, G: Gate + Sync>(
 ) -> Outcome<'a>
     requires names { AreWritten (run_names words.now) }
     requires fits { Fits words.now.config }
-    ensures outcome { OutcomeBy (run_loads (run_names words.now)) (Computes (run_check (run_names words.now) words.now.config)) (RunWrites (run_names words.now) words.now.config) LeavesAll
+    ensures outcome { CommandOutcome (run_loads (run_names words.now)) (run_check (run_names words.now) words.now.config) (RunWrites (run_names words.now) words.now.config) LeavesAll
         (end_of result) (H.state host.old) (H.state host.new) }
     ensures silent { Silent (H.state host.old) (H.state host.new) }
 {

@@ -8,3 +8,6 @@ mod replaying;
 pub use checked::{Checked, Recording, RunFault, check, open_board};
 pub use refused::refuse;
 pub use replaying::replay;
+
+#[cfg(test)]
+mod tests;

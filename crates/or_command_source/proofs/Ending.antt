@@ -15,12 +15,11 @@ use Rattle.or_command.specs.Loads.{AreRead, AllRead, LoadsAll}
 use Rattle.or_command.specs.Lines.{source_line, image_line}
 use Rattle.or_command.specs.Said.{OnlySays}
 use Rattle.or_command.specs.Ends.{FailedCheck, CommandEnd, done, unread, too_long, refused, unwritten, no_memory}
-use Rattle.or_command.specs.Outcomes.{LeavesAll, AreApart, OutcomeBy, Computes}
+use Rattle.or_command.specs.Outcomes.{LeavesAll, AreApart, CommandOutcome}
 use Rattle.or_command.proofs.TellsLemmas.{same_refl, same_then, same_then_step, step_then_same, no_fault_then}
-use Rattle.or_command.proofs.OutcomesLemmas.{read_stays, done_by, unwritten_by, refusal_by}
-use Rattle.or_command_image.specs.Loaded.{image_check}
+use Rattle.or_command.proofs.OutcomesLemmas.{read_stays, done_outcome, unwritten_outcome, refusal_outcome}
 use Rattle.or_command_source.specs.Assembly.{asm_loads, asm_check, source_check, AsmWrites, only_file}
-use Rattle.or_command_source.specs.Listing.{dis_loads, dis_check, DisWrites, DisLacks, IsListed, listing}
+use Rattle.or_command_source.specs.Listing.{dis_loads, dis_check, fault_check, DisWrites, DisLacks, IsListed, listing}
 use Rattle.or_command_line.specs.declared.Workload.{Workload}
 use Rattle.or_command_source.specs.Generation.{gen_loads, gen_check, GenWrites}
 use Rattle.or_command_source.specs.Listed.{Wrote, DisEnds}
@@ -35,7 +34,7 @@ source_status name (Ok program) fault e = absurd (let b : ⊥ = cc in b)
 source_status name (Err refusal) fault e =
     let same : record { status = 9; line = source_line name (number_of_fault refusal.0) refusal.1 } ≡ fault = cc in sym (ap (λ (f : FailedCheck). f.status) same)
 
-image_status : (name : List ℕ) (found : Option ElfFault) (fault : FailedCheck) → image_check name found ≡ Some fault → fault.status ≡ 3
+image_status : (name : List ℕ) (found : Option ElfFault) (fault : FailedCheck) → fault_check name found ≡ Some fault → fault.status ≡ 3
 image_status name None fault e = absurd (let b : ⊥ = cc in b)
 image_status name (Some found) fault e =
     let same : record { status = 3; line = image_line name (number_of found) (place_of found) } ≡ fault = cc in sym (ap (λ (f : FailedCheck). f.status) same)
@@ -81,22 +80,22 @@ lacks_then_said image a b c only lacks = record {
 wrote_all : (text : List ℕ) (b c : HostState) → Wrote text b c → AllWritten [] text b c
 wrote_all text b c wrote = record { whole = tt; others = λ name _. wrote.names name; written = wrote.written; no_fault = wrote.no_fault }
 
-sound_of : (image : List ℕ) (found : Option ElfFault) → found ≡ None → image_check image found ≡ None
-sound_of image found e = ap (image_check image) e
+sound_of : (image : List ℕ) (found : Option ElfFault) → found ≡ None → fault_check image found ≡ None
+sound_of image found e = ap (fault_check image) e
 
 -- the command behind an image that was loaded
 dis_finished : (image : List ℕ) (files : List (List ℕ)) (end : CommandEnd) (a b c : HostState) → AllRead (dis_loads image) files a b
-    → DisEnds image (only_file files) end b c → OutcomeBy (dis_loads image) (Computes (dis_check image)) DisWrites (DisLacks image) end a c
+    → DisEnds image (only_file files) end b c → CommandOutcome (dis_loads image) (dis_check image) DisWrites (DisLacks image) end a c
 dis_finished image files done a b c all ends =
-    done_by (dis_loads image) (Computes (dis_check image)) DisWrites (DisLacks image) files [] (listing (only_file files)) a b c
+    done_outcome (dis_loads image) (dis_check image) DisWrites (DisLacks image) files [] (listing (only_file files)) a b c
     (tt, tt) all (sound_of image (elf_fault (only_file files) 268435456) ends.0) (record { none = refl; listed = refl }) (wrote_all (listing (only_file files)) b c ends.1)
 dis_finished image files (unwritten name) a b c all ends =
-    unwritten_by (dis_loads image) (Computes (dis_check image)) DisWrites (DisLacks image) files [] (listing (only_file files)) name a b c
+    unwritten_outcome (dis_loads image) (dis_check image) DisWrites (DisLacks image) files [] (listing (only_file files)) name a b c
     (tt, tt) all (sound_of image (elf_fault (only_file files) 268435456) ends.0) (record { none = refl; listed = refl })
     (inr (ends.1, record { whole = tt; others = λ other _. ends.2.names other; written = ends.2.written; cause = ends.2.cause }))
 dis_finished image files (refused fault) a b c all ends =
-    subst (λ (s : HostState). OutcomeBy (dis_loads image) (Computes (dis_check image)) DisWrites (DisLacks image) (refused fault) a s) (sym ends.1)
-    (refusal_by (dis_loads image) (Computes (dis_check image)) DisWrites (DisLacks image) files fault a b all ends.0)
+    subst (λ (s : HostState). CommandOutcome (dis_loads image) (dis_check image) DisWrites (DisLacks image) (refused fault) a s) (sym ends.1)
+    (refusal_outcome (dis_loads image) (dis_check image) DisWrites (DisLacks image) files fault a b all ends.0)
 dis_finished image files no_memory a b c all ends = record {
   names = λ name. same_then (a.holds name) (b.holds name) (c.holds name) (all.untouched.names name) (ends.1.names name);
   no_fault = no_fault_then a b c all.no_fault ends.1.no_fault;
@@ -113,7 +112,7 @@ dis_finished image files (unread name) a b c all ends = absurd ends
 dis_finished image files (too_long name limit) a b c all ends = absurd ends
 
 pub dis_goes_on : (image : List ℕ) (held kept : List (List ℕ)) (end : CommandEnd) (a b c : HostState) → held ≡ [] → LoadsAll (dis_loads image) held kept a b
-    → DisEnds image (only_file kept) end b c → OutcomeBy (dis_loads image) (Computes (dis_check image)) DisWrites (DisLacks image) end a c
+    → DisEnds image (only_file kept) end b c → CommandOutcome (dis_loads image) (dis_check image) DisWrites (DisLacks image) end a c
 dis_goes_on image held kept end a b c none loads ends =
     let same : kept ≡ loads.files = loads.stands ∙ ap (λ l. l ++ loads.files) none in
     dis_finished image loads.files end a b c loads.all (subst (λ (files : List (List ℕ)). DisEnds image (only_file files) end b c) same ends)

@@ -8,8 +8,7 @@ use Rattle.or_host.specs.HostState.{HostState}
 use Rattle.or_host.specs.Calls.{dash}
 use Rattle.or_command.specs.Leaves.{NoFault, FaultOf}
 use Rattle.or_command.specs.Ends.{CommandEnd, done, unread, too_long, refused, unwritten, no_memory}
-use Rattle.or_command_image.specs.Loaded.{image_check}
-use Rattle.or_command_source.specs.Listing.{listing}
+use Rattle.or_command_source.specs.Listing.{listing, fault_check}
 use Rattle.or_command_source.specs.declared.listing.ListStop.{ListStop}
 use Rattle.or_command_source.specs.declared.listing.ListStop.TheVariants.{Unwritten, NoMemory}
 
@@ -48,7 +47,7 @@ pub record SoFar (rest whole : List ℕ) (old now : HostState) : Type 0 where
 abbrev pub DisEnds : List ℕ → List ℕ → CommandEnd → HostState → HostState → Type 0
 DisEnds name image done old new = (elf_fault image 268435456 ≡ None) × Wrote (listing image) old new
 DisEnds name image (unwritten out) old new = (elf_fault image 268435456 ≡ None) × (out ≡ dash) × WroteUntilFault (listing image) old new
-DisEnds name image (refused fault) old new = (image_check name (elf_fault image 268435456) ≡ Some fault) × (new ≡ old)
+DisEnds name image (refused fault) old new = (fault_check name (elf_fault image 268435456) ≡ Some fault) × (new ≡ old)
 DisEnds name image no_memory old new = (elf_fault image 268435456 ≡ None) × WroteUntilLack (listing image) old new
 DisEnds name image (unread file) old new = ⊥
 DisEnds name image (too_long file limit) old new = ⊥

@@ -7,16 +7,17 @@ use Rattle.or_isa.specs.declared.Insn.{Insn}
 use Rattle.or_isa.specs.Decode.{decode_of}
 use Rattle.or_asm_text.specs.Texts.{text_of}
 use Rattle.or_elf.specs.declared.segment.Segment.{Segment}
+use Rattle.or_elf.specs.declared.fault.ElfFault.{ElfFault}
 use Rattle.or_elf.specs.Header.{segments}
-use Rattle.or_elf.specs.Fault.{elf_fault}
+use Rattle.or_elf.specs.Fault.{elf_fault, number_of, place_of}
 use Rattle.or_host.specs.HostState.{HostState}
 use Rattle.or_host.specs.Told.{TellsSame, TellsStep}
 use Rattle.or_host.specs.Bytes.{AddsPrefix}
 use Rattle.or_command.specs.Leaves.{NoFault}
 use Rattle.or_command.specs.Loads.{Load, AreRead}
 use Rattle.or_command.specs.Writes.{File}
+use Rattle.or_command.specs.Lines.{image_line}
 use Rattle.or_command.specs.Ends.{FailedCheck}
-use Rattle.or_command_image.specs.Loaded.{image_limit, image_check}
 use Rattle.or_command_source.specs.Assembly.{only_file}
 
 -- the text of a word that stands at an address: its instruction, or the word itself where it is none
@@ -48,11 +49,15 @@ unfoldable pub listing : List ℕ → List ℕ
 listing bytes = flat_map (segment_lines bytes) (segments bytes)
 
 abbrev pub dis_loads : List ℕ → List Load
-dis_loads image = record { name = image; limit = image_limit } ∷ []
+dis_loads image = record { name = image; limit = 67108864 } ∷ []
+
+abbrev pub fault_check : List ℕ → Option ElfFault → Option FailedCheck
+fault_check name None = None
+fault_check name (Some fault) = Some (record { status = 3; line = image_line name (number_of fault) (place_of fault) })
 
 -- the image has no fault for 256 MiB of RAM
 abbrev pub dis_check : List ℕ → List (List ℕ) → Option FailedCheck
-dis_check image files = image_check image (elf_fault (only_file files) 268435456)
+dis_check image files = fault_check image (elf_fault (only_file files) 268435456)
 
 -- no file is written, and the listing goes to standard output
 pub record DisWrites (files : List (List ℕ)) (outs : List File) (console : List ℕ) : Type 0 where

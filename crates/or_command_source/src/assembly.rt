@@ -8,9 +8,8 @@ ghost use Rattle.or_command_line.specs.Names.{IsAssembly};
 ghost use Rattle.or_command.specs.Leaves.{Silent};
 ghost use Rattle.or_command.specs.Loads.{bytes_of};
 ghost use Rattle.or_command.specs.Ends.{end_of};
-ghost use Rattle.or_command.specs.Outcomes.{OutcomeBy, Computes, LeavesAll};
-ghost use Rattle.or_command.specs.Answered.{Answers, IsDecided, Stops};
-ghost use Rattle.or_command.specs.Finishing.{GoesOn};
+ghost use Rattle.or_command.specs.Outcomes.{CommandOutcome, LeavesAll};
+ghost use Rattle.or_command.specs.Answered.{Answers, IsDecided, FinishEnds, Stops};
 ghost use Rattle.or_command_source.specs.Assembly.{asm_loads, asm_check, source_check, AsmWrites, only_file, IsFileOf};
 
 use crate::files::{only_file, write_file};
@@ -62,7 +61,7 @@ fn finish<'a, H: Host>(
 ) -> Outcome<'a>
     requires names { IsAssembly source.now image.now }
     requires limit { length (only_file (bytes_of files.now)) ≤ 4194304 }
-    ensures outcome { GoesOn (Computes (asm_check source.now)) (AsmWrites image.now) (bytes_of files.now) (end_of result) (H.state host.old) (H.state host.new) }
+    ensures outcome { FinishEnds (asm_check source.now) (AsmWrites image.now) (bytes_of files.now) (end_of result) (H.state host.old) (H.state host.new) }
     ensures silent { Silent (H.state host.old) (H.state host.new) }
 {
     match program_file(alloc, only_file(files)) {
@@ -79,7 +78,7 @@ fn assembled<'a, H: Host>(
     host: &mut H,
 ) -> Outcome<'a>
     requires names { IsAssembly source.now image.now }
-    ensures outcome { OutcomeBy (asm_loads source.now) (Computes (asm_check source.now)) (AsmWrites image.now) LeavesAll (end_of result) (H.state host.old) (H.state host.new) }
+    ensures outcome { CommandOutcome (asm_loads source.now) (asm_check source.now) (AsmWrites image.now) LeavesAll (end_of result) (H.state host.old) (H.state host.new) }
     ensures silent { Silent (H.state host.old) (H.state host.new) }
 {
     let mut files = Vec::new(alloc);
@@ -101,8 +100,8 @@ fn assembled<'a, H: Host>(
 /// 9 the source has a fault. After 5, 7, 8 and 9 nothing is written or created.
 pub fn asm<H: Host>(alloc: Global, source: &str, image: &str, host: &mut H) -> u8
     requires names { IsAssembly source.now image.now }
-    ensures ends { Answers (asm_loads source.now) (Computes (asm_check source.now)) (AsmWrites image.now) LeavesAll result (H.state host.old) (H.state host.new) }
-    ensures decided { IsDecided (asm_loads source.now) (Computes (asm_check source.now)) (AsmWrites image.now) LeavesAll result (H.state host.old) (H.state host.new) }
+    ensures ends { Answers (asm_loads source.now) (asm_check source.now) (AsmWrites image.now) LeavesAll result (H.state host.old) (H.state host.new) }
+    ensures decided { IsDecided (asm_loads source.now) (asm_check source.now) (AsmWrites image.now) LeavesAll result (H.state host.old) (H.state host.new) }
     ensures command { result ≢ 2 }
 {
     let outcome = assembled(alloc, source, image, host);

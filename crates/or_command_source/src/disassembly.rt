@@ -4,7 +4,7 @@ ghost use Rattle.or_command_line.specs.Words.{IsFileName};
 ghost use Rattle.or_command.specs.Leaves.{Silent};
 ghost use Rattle.or_command.specs.Loads.{bytes_of};
 ghost use Rattle.or_command.specs.Ends.{end_of};
-ghost use Rattle.or_command.specs.Outcomes.{OutcomeBy, Computes};
+ghost use Rattle.or_command.specs.Outcomes.{CommandOutcome};
 ghost use Rattle.or_command.specs.Answered.{Answers, IsDecided};
 ghost use Rattle.or_command_source.specs.Assembly.{only_file as only_file_of};
 ghost use Rattle.or_command_source.specs.Listing.{dis_loads, dis_check, DisWrites, DisLacks, listing};
@@ -48,7 +48,7 @@ fn finish<'a, H: Host>(alloc: Global, name: &'a str, image: &[u8], host: &mut H)
 // Loads an image, and writes its text.
 fn disassembled<'a, H: Host>(alloc: Global, image: &'a str, host: &mut H) -> Outcome<'a>
     requires name { IsFileName image.now }
-    ensures outcome { OutcomeBy (dis_loads image.now) (Computes (dis_check image.now)) DisWrites (DisLacks image.now) (end_of result) (H.state host.old) (H.state host.new) }
+    ensures outcome { CommandOutcome (dis_loads image.now) (dis_check image.now) DisWrites (DisLacks image.now) (end_of result) (H.state host.old) (H.state host.new) }
     ensures silent { Silent (H.state host.old) (H.state host.new) }
 {
     let mut files = Vec::new(alloc);
@@ -71,8 +71,8 @@ fn disassembled<'a, H: Host>(alloc: Global, image: &'a str, host: &mut H) -> Out
 /// image is too long. After 3, 5 and 8 nothing is written; after 6 and 7 a prefix of the lines may be.
 pub fn dis<H: Host>(alloc: Global, image: &str, host: &mut H) -> u8
     requires name { IsFileName image.now }
-    ensures ends { Answers (dis_loads image.now) (Computes (dis_check image.now)) DisWrites (DisLacks image.now) result (H.state host.old) (H.state host.new) }
-    ensures decided { IsDecided (dis_loads image.now) (Computes (dis_check image.now)) DisWrites (DisLacks image.now) result (H.state host.old) (H.state host.new) }
+    ensures ends { Answers (dis_loads image.now) (dis_check image.now) DisWrites (DisLacks image.now) result (H.state host.old) (H.state host.new) }
+    ensures decided { IsDecided (dis_loads image.now) (dis_check image.now) DisWrites (DisLacks image.now) result (H.state host.old) (H.state host.new) }
     ensures command { result ≢ 2 }
 {
     let outcome = disassembled(alloc, image, host);

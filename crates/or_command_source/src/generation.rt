@@ -4,9 +4,8 @@ ghost use Rattle.or_command_line.specs.Words.{IsFileName};
 ghost use Rattle.or_command_line.specs.Workloads.{FitsWorkload};
 ghost use Rattle.or_command.specs.Leaves.{Silent};
 ghost use Rattle.or_command.specs.Ends.{end_of};
-ghost use Rattle.or_command.specs.Outcomes.{Computes, LeavesAll};
-ghost use Rattle.or_command.specs.Answered.{Answers, IsDecided};
-ghost use Rattle.or_command.specs.Finishing.{GoesOn};
+ghost use Rattle.or_command.specs.Outcomes.{LeavesAll};
+ghost use Rattle.or_command.specs.Answered.{Answers, IsDecided, FinishEnds};
 ghost use Rattle.or_command_source.specs.Generation.{gen_loads, gen_check, GenWrites};
 
 use crate::files::write_file;
@@ -25,7 +24,7 @@ fn generated<'a, H: Host>(
 ) -> Outcome<'a>
     requires numbers { FitsWorkload workload.now }
     requires name { IsFileName source.now }
-    ensures outcome { GoesOn (Computes gen_check) (GenWrites workload.now source.now) [] (end_of result) (H.state host.old) (H.state host.new) }
+    ensures outcome { FinishEnds gen_check (GenWrites workload.now source.now) [] (end_of result) (H.state host.old) (H.state host.new) }
     ensures silent { Silent (H.state host.old) (H.state host.new) }
 {
     let mut text = Vec::new(alloc);
@@ -41,8 +40,8 @@ fn generated<'a, H: Host>(
 pub fn generate<H: Host>(alloc: Global, workload: &Workload, source: &str, host: &mut H) -> u8
     requires numbers { FitsWorkload workload.now }
     requires name { IsFileName source.now }
-    ensures ends { Answers gen_loads (Computes gen_check) (GenWrites workload.now source.now) LeavesAll result (H.state host.old) (H.state host.new) }
-    ensures decided { IsDecided gen_loads (Computes gen_check) (GenWrites workload.now source.now) LeavesAll result (H.state host.old) (H.state host.new) }
+    ensures ends { Answers gen_loads gen_check (GenWrites workload.now source.now) LeavesAll result (H.state host.old) (H.state host.new) }
+    ensures decided { IsDecided gen_loads gen_check (GenWrites workload.now source.now) LeavesAll result (H.state host.old) (H.state host.new) }
     ensures command { result ≢ 2 }
 {
     let outcome = generated(alloc, workload, source, host);

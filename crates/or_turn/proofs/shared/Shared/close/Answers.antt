@@ -13,7 +13,7 @@ use Rattle.or_turn.specs.Rule.{settings_of}
 use Rattle.or_turn.specs.Told.{LastKnows}
 use Rattle.or_turn.specs.Shown.{core_of, cores_shown}
 use Rattle.or_turn.proofs.Joining.{shuts}
-use Rattle.or_turn.proofs.Units.{shut_length, shut_numbered, shut_row, shut_order}
+use Rattle.or_turn.proofs.Units.{shut_core, shut_length, shut_numbered, shut_row, shut_order}
 use Rattle.or_turn.proofs.shared.Shared.close.Goals.{After-take}
 use Rattle.or_turn.proofs.shared.Shared.close.Goals as goal
 
@@ -44,6 +44,7 @@ returns c = let at = goal.at.returns c in let s = shut at.After-take in let v : 
     (λ n l. subst (λ (xs : List Core). ((core_at c.in_order.result.items n).number ≡ n) × Among (core_at c.in_order.result.items n) xs) are (c.in_order.ensures.each n (let e = ap (λ (xs : List Core). length xs) are in omega arith))) in record {
       defined = subst (λ (xs : List ℕ). IsDefined st xs) (sym schedule) s.2.defined;
       cores = row ∙ ap (λ (xs : List ℕ). (board_of st xs).cores) (sym schedule);
+      own = λ d h. ap (λ (xs : List Core). core_at xs d) row ∙ sym (shut_core v s.0 s.2 c.requires.whole d h);
       bus = subst (λ (p : Transfer × List ℕ). Represents p.0.bus (board_of st p.1).world) (λ i. (sym same i, sym schedule i)) s.2.holds.bus;
       order = shut_order v s.0 s.2 c.requires.whole c.in_order.result.items c.unwrap-transfer.result.bus row (ap (λ (x : Transfer). x.bus.cores) same);
       begins = subst (λ (xs : List ℕ). Rattle.or_turn.specs.Rule.Begins v.seen xs) (sym schedule) s.2.begins;

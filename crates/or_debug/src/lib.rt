@@ -1,0 +1,14 @@
+//! The debugger: it follows a schedule on a board as a script says, and writes what the script asks to see.
+#![tactic(auto)]
+
+mod answering;
+mod debugger;
+mod points;
+mod shown;
+mod turns;
+
+pub use answering::session;
+pub use or_script::{ScriptFault, check};
+
+#[cfg(test)]
+mod tests;

@@ -1,0 +1,5 @@
+pub mod Parts
+pub mod Operands
+pub mod Command
+pub mod Script
+pub mod Last

@@ -1,0 +1,13 @@
+-- The operands of a line.
+use Rattle.std.specs.Prelude.{ℕ, ◌==◌, ◌&&◌, if◌then◌else◌, List, [], ◌∷◌, Option, None}
+use Rattle.or_text.specs.Numerals.{size_of, has_leading_zero}
+
+-- a number: decimal, or hexadecimal behind 0x; from 2 ^ 32 on all count as 2 ^ 32
+abbrev pub number_of : List ℕ → Option ℕ
+number_of [] = size_of 10 []
+number_of (c ∷ []) = size_of 10 (c ∷ [])
+number_of (c ∷ d ∷ ds) = if c == 48 && d == 120 then size_of 16 ds else size_of 10 (c ∷ d ∷ ds)
+
+-- a core's number: decimal without leading zeros
+abbrev pub core_number : List ℕ → Option ℕ
+core_number text = if has_leading_zero text then None else size_of 10 text

@@ -1,0 +1,29 @@
+//! The operands of a line.
+ghost use Rattle.std.specs.Prelude.{◌≡◌, ◌≤◌, ◌^◌, IfSome};
+ghost use Rattle.or_script.specs.Operands.{number_of, core_number};
+
+use or_text::numerals::{has_leading_zero, size};
+
+/// A number in decimal, or behind `0x` in hexadecimal digits of either case; leading zeros may stand. From 2^32 on all
+/// count as 2^32. `None` where the text is no number.
+pub fn number(text: &[u8]) -> Option<u64>
+    ensures is { result ≡ number_of text.now }
+    ensures within { IfSome result (λ n. n ≤ 2 ^ 32) }
+{
+    match text {
+        [b'0', b'x', digits @ ..] => size(16, digits),
+        _ => size(10, text),
+    }
+}
+
+/// A number in decimal without leading zeros. From 2^32 on all count as 2^32. `None` where the text is none.
+pub fn core_number(text: &[u8]) -> Option<u64>
+    ensures is { result ≡ core_number text.now }
+    ensures within { IfSome result (λ n. n ≤ 2 ^ 32) }
+{
+    if has_leading_zero(text) {
+        None
+    } else {
+        size(10, text)
+    }
+}
