@@ -1,5 +1,8 @@
 //! Laws of sources and their programs, in the words of the subject: what is printed is read back, a line and a number have
 //! one reading, the first fault decides, and the pieces hold the words.
+//!
+//! Each function here has an empty body, and its contract is the law: the statements are of definitions alone, so there is
+//! no code that an edit could make wrong. The wrong bodies of the assembler stand with its code.
 #![tactic(auto)]
 
 ghost use Rattle.std.specs.Prelude.{◌≡◌, ℕ, ℤ, pos, ◌%◌, ◌^◌, ◌<◌, [], ◌∷◌, ◌++◌, List, Option, Some, None, Ok, Err};
