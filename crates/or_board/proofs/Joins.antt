@@ -1,13 +1,12 @@
 -- Units that have worked, put together one after another.
-use Rattle.std.proofs.Common.{◌≡◌, ℕ, zero, suc, ◌+◌, ◌<◌, ◌≤◌, true, List, [], ◌∷◌, ◌++◌, length, get_or, None, Some, refl, sym, ap, ◌∙◌, subst, arith}
+use Rattle.std.proofs.Common.{◌≡◌, ℕ, zero, suc, ◌+◌, ◌<◌, true, List, [], ◌∷◌, ◌++◌, length, get_or, None, Some, refl, sym, ap, ◌∙◌, subst, arith}
 use mathlib.Core.Logic.{dite}
 use native.Mathlib.Decide.{ℕ_discrete, dec_lt}
 use Rattle.atomic_table.specs.Seated.{TableId}
-use Rattle.std.specs.Prelude.{slice_get, slice_index_or}
+use Rattle.std.specs.Prelude.{slice_get}
 use Rattle.std.specs.List.{All}
 use Rattle.or_words.specs.Settings.{Fits}
 use Rattle.or_sched.specs.Schedule.{IsSchedule, AreMarks}
-use Rattle.or_sched.specs.declared.recording.Mark.{Mark}
 use Rattle.or_model.specs.Core.{Core}
 use Rattle.or_replay.specs.Board.{all_stopped}
 use Rattle.or_replay.proofs.Stopped.{each_stopped}
@@ -28,7 +27,7 @@ use Rattle.or_turn.proofs.Replays.{replays, defined_none, count_none, count_same
 use Rattle.or_turn.proofs.Steps.{sound, entries_below, few_turns}
 use Rattle.or_turn.proofs.Counts.{core_told, count_one}
 use Rattle.or_turn.proofs.Joining.{longer_has}
-use Rattle.or_board.specs.Works.{Works, Worked, Starts, HasFrom, IsThreadedRun}
+use Rattle.or_board.specs.Works.{Worked, Starts, HasFrom, IsThreadedRun}
 
 -- what the opening gives may be worked
 pub fresh_starts : (z : TableId) (st : Settings) (n : ℕ) (u : Piece) → Fresh z st n u → n < st.config.cores → Starts z st n u

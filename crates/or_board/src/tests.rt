@@ -1,4 +1,4 @@
-ghost use Rattle.std.specs.Prelude.{◌≡◌, ◌≤◌, ◌<◌, ◌+◌, IfOk, length};
+ghost use Rattle.std.specs.Prelude.{◌≡◌, ◌≤◌, ◌+◌, ◌/◌, IfOk, length};
 ghost use Rattle.or_words.specs.Settings.{Fits};
 ghost use Rattle.or_replay.specs.Board.{AreOfBus};
 ghost use Rattle.or_turn.specs.Units.{settings_in, id_of};
@@ -113,12 +113,13 @@ fn both_ends(
     requires fits { Fits config.now }
     requires limit { length image.now ≤ 67108864 }
     requires order { AreOfBus closed.cores.items closed.bus }
+    requires marks { length closed.marks.items ≡ length closed.schedule.items / 65536 }
 {
     let Closed {
         cores,
         bus,
         schedule,
-        marks: _,
+        marks,
     } = closed;
     let turns = schedule.len() as u64;
     let mut text = Vec::new(alloc);
@@ -126,13 +127,8 @@ fn both_ends(
     let Ok(mut board) = Board::open(alloc, config, image, Vec::new(alloc)) else {
         return Err("opening".into());
     };
-    for core in schedule.iter() {
-        if board.turn(*core).is_err() {
-            return Err("a turn is refused".into());
-        }
-    }
-    if !board.finished() {
-        return Err("a core runs".into());
+    if board.follow(&schedule, &marks).is_err() {
+        return Err("the schedule is refused".into());
     }
     let (cores, bus) = board.into_parts();
     let mut again = Vec::new(alloc);
@@ -162,6 +158,7 @@ fn two_callers<R: Threads + Wait + Sync>(
     requires two { config.now.cores ≡ 2 }
     requires limit { length image.now ≤ 67108864 }
     ensures order { IfOk result (λ closed. AreOfBus closed.cores.items closed.bus) }
+    ensures marks { IfOk result (λ closed. length closed.marks.items ≡ length closed.schedule.items / 65536) }
 {
     let Ok((shared, mut units)) = Shared::open(alloc, config, image, Vec::new(alloc)) else {
         return Err("opening".into());

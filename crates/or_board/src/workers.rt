@@ -20,6 +20,9 @@ use std::sync::Wait;
 use std::thread;
 use std::thread::Threads;
 
+/// So many looks take about as long as a sleep and a wake.
+const LOOKS: u32 = 100;
+
 // Works a unit's core until its stop.
 pub(crate) fn work_unit<R: Wait, G: Gate>(rt: &R, shared: &Shared, unit: &mut Unit, gate: &G)
     requires fits { Fits (settings_in shared.now).config }
@@ -68,11 +71,25 @@ fn join_all(shared: &Shared, mut units: Vec<Unit>) -> Unit
     last
 }
 
+// How often who waits for the bus looks for its turn before it sleeps: not at all where threads share a processor.
+fn looks_for<R: Threads>(rt: &R, threads: usize) -> u32 {
+    match thread::available_parallelism(rt) {
+        Ok(processors) => {
+            if processors.get() >= threads {
+                LOOKS
+            } else {
+                0
+            }
+        }
+        Err(_) => 0,
+    }
+}
+
 /// Works every core until it stops, each on a thread of its own where one can be made, joins all units and closes. The
 /// units are those that the opening of `shared` answered. It waits; it takes no memory.
 pub fn work<R: Threads + Wait + Sync, G: Gate + Sync>(
     rt: &R,
-    shared: Shared,
+    mut shared: Shared,
     mut units: Vec<Unit>,
     gate: &G,
 ) -> Closed
@@ -83,6 +100,7 @@ pub fn work<R: Threads + Wait + Sync, G: Gate + Sync>(
     ensures marks { AreMarks result.schedule.items result.marks.items }
     ensures order { AreOfBus result.cores.items result.bus }
 {
+    shared.set_looks(looks_for(rt, units.len()));
     work_all(rt, &shared, units.as_mut_slice(), gate);
     let last = join_all(&shared, units);
     shared.close(last)

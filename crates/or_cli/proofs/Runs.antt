@@ -13,9 +13,7 @@ use Rattle.or_command.specs.Writes.{File}
 use Rattle.or_command.specs.Ends.{FailedCheck}
 use Rattle.or_command.specs.Outcomes.{AreApart}
 use Rattle.or_command_image.specs.Loaded.{image_loads, image_in, image_check, input_limit}
-use Rattle.or_command_line.specs.Names.{Names, Recorded, AreWritten}
-use Rattle.or_command_replay.specs.declared.checked.RunFault.{RunFault}
-use Rattle.or_command_replay.specs.Replay.{RecordedVerdict, fault_check}
+use Rattle.or_command_line.specs.Names.{Names, AreWritten}
 use Rattle.or_cli.specs.Run.{run_loads, run_check, RunWrites}
 
 -- an image that was read is within its limit

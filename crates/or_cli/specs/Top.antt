@@ -1,17 +1,24 @@
 -- What the top call says of each command.
-use Rattle.std.specs.Prelude.{◌≡◌, ℕ, List, Bool, true, false, Option, Some, None, if◌then◌else◌}
+use Rattle.std.specs.Prelude.{ℕ, List, Bool, true, false, Option, Some, None, if◌then◌else◌}
 use Rattle.or_host.specs.HostState.{HostState}
 use Rattle.or_command_line.specs.Command.{Shown, command_of}
-use Rattle.or_command_line.specs.Command.Shown.{run, replay, asm, dis, gen}
+use Rattle.or_command_line.specs.Command.Shown.{run, replay, asm, dis, debug, gen, bench}
 use Rattle.or_command.specs.Lines.{usage_line}
 use Rattle.or_command.specs.Said.{SaidLine}
 use Rattle.or_command.specs.Outcomes.{LeavesAll}
 use Rattle.or_command.specs.Answered.{Answers, AnswersBy, IsDecided, IsDecidedBy}
 use Rattle.or_command_replay.specs.Replay.{replay_loads, RecordedVerdict, ReplayWrites}
+use Rattle.or_command_debug.specs.Debug.{debug_loads, DebugVerdict, DebugWrites}
 use Rattle.or_command_source.specs.Assembly.{asm_loads, asm_check, AsmWrites}
 use Rattle.or_command_source.specs.Listing.{dis_loads, dis_check, DisWrites, DisLacks}
 use Rattle.or_command_source.specs.Generation.{gen_loads, gen_check, GenWrites}
 use Rattle.or_cli.specs.Run.{run_loads, run_check, RunWrites}
+
+-- the commands that work cores on threads, and so wait
+abbrev pub is_threaded : Shown → Bool
+is_threaded (run names config) = true
+is_threaded (bench workload schedule) = true
+is_threaded _ = false
 
 -- the commands that the top call does
 abbrev pub is_done : Shown → Bool
@@ -19,6 +26,7 @@ is_done (run names config) = true
 is_done (replay files report) = true
 is_done (asm source image) = true
 is_done (dis image) = true
+is_done (debug files script) = true
 is_done (gen workload source) = true
 is_done _ = false
 
@@ -29,6 +37,21 @@ done_command (Some command) = if is_done command then Some command else None
 -- the command that the words are, among those that the top call does
 abbrev pub top_command : List (List ℕ) → Option Shown
 top_command words = done_command (command_of words)
+
+abbrev pub of_threads : Option Shown → Option Shown
+of_threads None = None
+of_threads (Some command) = if is_threaded command then Some command else None
+
+abbrev pub of_one_thread : Option Shown → Option Shown
+of_one_thread None = None
+of_one_thread (Some command) = if is_threaded command then None else Some command
+
+-- that command, where it works cores on threads, and where it does not
+abbrev pub threaded_command : List (List ℕ) → Option Shown
+threaded_command words = of_threads (top_command words)
+
+abbrev pub lone_command : List (List ℕ) → Option Shown
+lone_command words = of_one_thread (top_command words)
 
 -- words that are no command: that is said, and nothing else happens
 pub record IsUsage (old new : HostState) : Type 0 where
@@ -41,6 +64,7 @@ CommandEnds (run names config) status old new = Answers (run_loads names) (run_c
 CommandEnds (replay files report) status old new = AnswersBy (replay_loads files) (RecordedVerdict files) (ReplayWrites files report) LeavesAll status old new
 CommandEnds (asm source image) status old new = Answers (asm_loads source) (asm_check source) (AsmWrites image) LeavesAll status old new
 CommandEnds (dis image) status old new = Answers (dis_loads image) (dis_check image) DisWrites (DisLacks image) status old new
+CommandEnds (debug files script) status old new = AnswersBy (debug_loads files script) (DebugVerdict files script) (DebugWrites files) LeavesAll status old new
 CommandEnds (gen workload source) status old new = Answers gen_loads gen_check (GenWrites workload source) LeavesAll status old new
 CommandEnds _ status old new = ⊥
 
@@ -50,5 +74,6 @@ IsComplete (run names config) status old new = IsDecided (run_loads names) (run_
 IsComplete (replay files report) status old new = IsDecidedBy (replay_loads files) (RecordedVerdict files) (ReplayWrites files report) LeavesAll status old new
 IsComplete (asm source image) status old new = IsDecided (asm_loads source) (asm_check source) (AsmWrites image) LeavesAll status old new
 IsComplete (dis image) status old new = IsDecided (dis_loads image) (dis_check image) DisWrites (DisLacks image) status old new
+IsComplete (debug files script) status old new = IsDecidedBy (debug_loads files script) (DebugVerdict files script) (DebugWrites files) LeavesAll status old new
 IsComplete (gen workload source) status old new = IsDecided gen_loads gen_check (GenWrites workload source) LeavesAll status old new
 IsComplete _ status old new = ⊥

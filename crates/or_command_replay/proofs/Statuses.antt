@@ -14,7 +14,7 @@ use Rattle.or_command_replay.specs.declared.checked.RunFault.TheVariants.{Text, 
 use Rattle.or_command_replay.specs.Replay.{schedule_check, text_check, turn_detail, fault_check, RecordedVerdict}
 
 -- the status of a check that is given
-status_is : (status : ℕ) (line : List ℕ) (check : FailedCheck) → Some (record { status = status; line = line }) ≡ Some check → check.status ≡ status
+pub status_is : (status : ℕ) (line : List ℕ) (check : FailedCheck) → Some (record { status = status; line = line }) ≡ Some check → check.status ≡ status
 status_is status line check e = let same : record { status = status; line = line } ≡ check = cc in sym (ap (λ (c : FailedCheck). c.status) same)
 
 of_schedule : (name : List ℕ) (detail : ScheduleDetail) (check : FailedCheck) → schedule_check name detail ≡ Some check → check.status ≢ 2

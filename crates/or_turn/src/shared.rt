@@ -28,6 +28,18 @@ pub struct Shared {
     ghost sized: { (table.shared.table_id.words ≡ 3) × (table.shared.table_id.slots ≡ 1) },
 }
 
+impl Shared {
+    ghost use Rattle.or_turn.specs.Units.{id_of, settings_in};
+
+    /// Sets how often who waits for the bus looks for its turn before it sleeps; at first it is 0. Looking pays only where
+    /// each thread has a processor of its own.
+    pub fn set_looks(&mut self, looks: u32)
+        ensures { (id_of self.new ≡ id_of self.old) × (settings_in self.new ≡ settings_in self.old) }
+    {
+        self.sleepers.looks = looks;
+    }
+}
+
 /// What is left when all units are joined: the cores in order of number, the bus, the schedule and its marks.
 #[derive(Drop)]
 pub struct Closed {

@@ -10,6 +10,8 @@ const SLEEPER: u64 = 1;
 #[derive(Drop)]
 pub(crate) struct Sleepers {
     places: [AtomicU64; 8],
+    /// How often who waits looks before it sleeps.
+    pub(crate) looks: u32,
 }
 
 impl Sleepers {
@@ -25,6 +27,7 @@ impl Sleepers {
                 AtomicU64::new(NOBODY),
                 AtomicU64::new(NOBODY),
             ],
+            looks: 0,
         }
     }
 

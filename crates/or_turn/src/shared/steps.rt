@@ -11,6 +11,7 @@ use crate::plays::{Confirm, Divide, Draw, Enrol, Finish, Look, TurnRule, Unite};
 use crate::unit::Place;
 use crate::view::{OpenedWith, Transfer, View};
 use atomic_table::Shared as Steps;
+use std::hint;
 use std::sync::Wait;
 
 // The words: the next ticket, the ticket that is served, and how many cores are enrolled.
@@ -42,6 +43,18 @@ fn look(top: &Top, seat: &mut Place, ticket: u64) -> bool
     top.load::<Look>(seat, SERVING) == ticket
 }
 
+// Looks up to so many times for the ticket to be served.
+fn watch(top: &Top, ticket: u64, looks: u32)
+    requires { top.now.table_id.words ≡ 3 }
+{
+    for _ in 0..looks {
+        if top.peek(SERVING) == ticket {
+            return;
+        }
+        hint::spin_loop();
+    }
+}
+
 // Waits until the ticket is served, and takes the slot.
 pub(crate) fn wait_for_bus<R: Wait>(
     rt: &R,
@@ -56,6 +69,7 @@ pub(crate) fn wait_for_bus<R: Wait>(
     ensures took { TakesBus seat.old.me.0 seat.new.me }
 {
     for _ in rt.forever() {
+        watch(top, ticket, sleepers.looks);
         if look(top, seat, ticket) {
             return;
         }

@@ -1,8 +1,10 @@
-use Rattle.std.proofs.Common.{◌≡◌, ℕ, ◌+◌, ◌<◌, ◌≤◌, List, [], ◌∷◌, ◌++◌, length, get_or, Option, sym, ap, ◌∙◌, subst, arith, length-append}
+use Rattle.std.proofs.Common.{◌≡◌, ℕ, ◌+◌, ◌<◌, List, [], ◌∷◌, ◌++◌, length, get_or, Option, sym, ap, ◌∙◌, subst, arith, length-append}
 use Rattle.std.specs.Option.{option_to_list}
 use Rattle.or_turn.specs.declared.view.Settings.{Settings}
 use Rattle.or_turn.specs.declared.unit.Unit.{Unit as Piece}
-use Rattle.or_turn.specs.Units.{view, settings_in, id_of, Fresh}
+use Rattle.or_turn.specs.Units.{settings_in, id_of}
+use Rattle.or_sched.specs.declared.recording.Mark.{Mark}
+use Rattle.or_turn.proofs.Blocks.{length_marks}
 use Rattle.or_board.specs.Works.{Starts, HasFrom}
 use Rattle.or_board.proofs.Joins.{popped, fresh_starts, worked_has, joined_has}
 use Rattle.or_board.proofs.tests.two_callers.Goals as goal
@@ -32,3 +34,6 @@ close-requires-clause-whole g c =
     let t = c.join.ensures in let e = c.join-first.ensures in
     let has : HasFrom z st 0 c.join.new.into = joined_has z st 0 c.join-first.result.1 c.join-first.result.0 c.join.new.into (worked_has z st 1 c.join-first.result.1 e.second two) e.first t.of t.rest t.view t.first t.second t.told t.other_told in
     λ d h. has.has d (omega arith) (subst (λ (x : Settings). d < x.config.cores) has.settings h)
+
+pub returns-clause-marks : goal.returns-clause-marks
+returns-clause-marks g c = ap (λ (l : List Mark). length l) c.close.ensures.marks ∙ length_marks _ _

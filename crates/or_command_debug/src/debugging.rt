@@ -1,0 +1,125 @@
+//! The command `debug`.
+ghost use Rattle.std.specs.Prelude.{◌≡◌, ◌≤◌, [], length};
+ghost use Rattle.or_host.specs.HostState.{HostState};
+ghost use Rattle.or_host.specs.Calls.{IsName};
+ghost use Rattle.or_words.specs.Settings.{Fits};
+ghost use Rattle.or_command.specs.Leaves.{Silent};
+ghost use Rattle.or_command.specs.Ends.{end_of};
+ghost use Rattle.or_command.specs.Finishing.{WriteEnds, GoesOn};
+ghost use Rattle.or_command.specs.Outcomes.{OutcomeBy, LeavesAll};
+ghost use Rattle.or_command.specs.Loads.{bytes_of};
+ghost use Rattle.or_command_line.specs.Names.{recorded_names, AreRecorded};
+ghost use Rattle.or_command_image.specs.Loaded.{RecordedBytes};
+ghost use Rattle.or_command_replay.specs.Checked.{IsChecked};
+ghost use Rattle.or_command_replay.specs.Replay.{bytes_in};
+ghost use Rattle.or_command_debug.specs.Debug.{debug_loads, script_bytes, DebugVerdict, DebugWrites, IsText};
+
+use crate::scripts::{load_debugged, refuse_script, script_in};
+use or_command::{LoadStop, Outcome, write_outputs};
+use or_command_image::recorded_in;
+use or_command_line::Recorded;
+use or_command_replay::{Checked, Recording, check, refuse};
+use or_debug::{ScriptFault, session};
+use or_host::Host;
+use or_replay::Board;
+use std::alloc::Global;
+
+// The recording of a run whose checks have passed, without the board at its end.
+fn recording_of(run: Checked) -> Recording
+    ensures { result ≡ run.recording }
+{
+    let Checked { recording, board } = run;
+    let _ended = board;
+    recording
+}
+
+// The session of a script on a recorded run. The image has no fault, so only memory keeps its board from being opened.
+fn text(
+    alloc: Global,
+    recording: &Recording,
+    image: &[u8],
+    input: &[u8],
+    script: &[u8],
+) -> Result<Vec<u8>, ScriptFault>
+    requires fits { Fits recording.now.head.config }
+    requires image { length image.now ≤ 67108864 }
+    requires script { length script.now ≤ 1048576 }
+    ensures { (bytes : RecordedBytes) → image.now ≡ bytes.image → input.now ≡ bytes.input
+        → IsChecked bytes.image bytes.input bytes.recording recording.now.head recording.now.turns.items recording.now.marks.items
+        → IsText bytes script.now result }
+{
+    let Ok(bytes) = Vec::from_slice(alloc, input) else {
+        return Err(ScriptFault::NoMemory);
+    };
+    match Board::open(alloc, &recording.head.config, image, bytes) {
+        Err(_) => Err(ScriptFault::NoMemory),
+        Ok(mut board) => {
+            let mut out = Vec::new(alloc);
+            match session(alloc, &mut board, &recording.turns, script, &mut out) {
+                Ok(()) => Ok(out),
+                Err(fault) => Err(fault),
+            }
+        }
+    }
+}
+
+// Writes the text.
+fn write<'a, H: Host>(text: &[u8], host: &mut H) -> Outcome<'a>
+    ensures outcome { WriteEnds [] text.now (end_of result) (H.state host.old) (H.state host.new) }
+    ensures silent { Silent (H.state host.old) (H.state host.new) }
+{
+    match write_outputs(host, &[], text) {
+        Ok(()) => Outcome::Done,
+        Err(name) => Outcome::Unwritten(name),
+    }
+}
+
+// How a session on files that were loaded ends.
+fn finish<'a, H: Host>(
+    alloc: Global,
+    names: &Recorded<'a>,
+    script: &'a str,
+    files: &[Vec<u8>],
+    host: &mut H,
+) -> Outcome<'a>
+    requires limit { length (bytes_in (recorded_names names.now) (bytes_of files.now)).image ≤ 67108864 }
+    requires script_limit { length (script_bytes (recorded_names names.now).input (bytes_of files.now)) ≤ 1048576 }
+    ensures outcome { GoesOn (DebugVerdict (recorded_names names.now) script.now) (DebugWrites (recorded_names names.now)) (bytes_of files.now) (end_of result) (H.state host.old) (H.state host.new) }
+    ensures silent { Silent (H.state host.old) (H.state host.new) }
+{
+    let read = recorded_in(names.input, files);
+    match check(alloc, read) {
+        Ok(run) => {
+            let recording = recording_of(run);
+            let lines = script_in(names.input, files);
+            match text(alloc, &recording, read.image, read.input, lines) {
+                Ok(text) => write(&text, host),
+                Err(fault) => refuse_script(script, fault),
+            }
+        }
+        Err(fault) => refuse(names, fault),
+    }
+}
+
+/// Debugs a recorded run: loads the image, the input, the recording and the script, checks them in this order, follows the
+/// turns as the script says, and writes the session's text to standard output.
+pub fn debug<'a, H: Host>(
+    alloc: Global,
+    names: &Recorded<'a>,
+    script: &'a str,
+    host: &mut H,
+) -> Outcome<'a>
+    requires names { AreRecorded (recorded_names names.now) }
+    requires script { IsName script.now }
+    ensures outcome { OutcomeBy (debug_loads (recorded_names names.now) script.now) (DebugVerdict (recorded_names names.now) script.now) (DebugWrites (recorded_names names.now)) LeavesAll
+        (end_of result) (H.state host.old) (H.state host.new) }
+    ensures silent { Silent (H.state host.old) (H.state host.new) }
+{
+    let mut files = Vec::new(alloc);
+    match load_debugged(alloc, host, names, script, &mut files) {
+        Ok(()) => finish(alloc, names, script, files.as_slice(), host),
+        Err(LoadStop::Unread(name)) => Outcome::Unread(name),
+        Err(LoadStop::TooLong(name, limit)) => Outcome::TooLong(name, limit),
+        Err(LoadStop::NoMemory) => Outcome::NoMemory,
+    }
+}

@@ -1,0 +1,91 @@
+//! The script of a command on a recorded run.
+ghost use Rattle.std.specs.Prelude.{◌≡◌, false, codes, MatchResult};
+ghost use Rattle.std.specs.Str.{bytes_eq};
+ghost use Rattle.or_host.specs.Calls.{IsName};
+ghost use Rattle.or_command.specs.Leaves.{Silent};
+ghost use Rattle.or_command.specs.Ends.{end_of};
+ghost use Rattle.or_command.specs.Finishing.{end_of_check};
+ghost use Rattle.or_command.specs.Loads.{bytes_of, LoadsAll, LoadsSome};
+ghost use Rattle.or_command_line.specs.Names.{recorded_names, AreRecorded};
+ghost use Rattle.or_command_debug.specs.Debug.{debug_loads, script_bytes, script_check};
+
+use or_command::{Input, LoadStop, Outcome, Refusal, load_files};
+use or_command_image::file_at;
+use or_command_line::Recorded;
+use or_debug::ScriptFault;
+use or_host::Host;
+use std::alloc::Global;
+
+const IMAGE_LIMIT: usize = 67_108_864;
+
+const INPUT_LIMIT: usize = 1_048_576;
+
+const RECORDING_LIMIT: usize = 671_088_640;
+
+const SCRIPT_LIMIT: usize = 1_048_576;
+
+/// Loads the image, the input where its name is not `-`, the recording and the script.
+pub fn load_debugged<'a, H: Host>(
+    alloc: Global,
+    host: &mut H,
+    names: &Recorded<'a>,
+    script: &'a str,
+    into: &mut Vec<Vec<u8>>,
+) -> Result<(), LoadStop<'a>>
+    requires names { AreRecorded (recorded_names names.now) }
+    requires script { IsName script.now }
+    ensures files { MatchResult result
+        (λ _. LoadsAll (debug_loads (recorded_names names.now) script.now) (bytes_of into.old.items) (bytes_of into.new.items) (H.state host.old) (H.state host.new))
+        (λ stop. LoadsSome (debug_loads (recorded_names names.now) script.now) stop (bytes_of into.old.items) (bytes_of into.new.items) (H.state host.old) (H.state host.new)) }
+    ensures silent { Silent (H.state host.old) (H.state host.new) }
+{
+    let image = Input {
+        name: names.image,
+        limit: IMAGE_LIMIT,
+    };
+    let recording = Input {
+        name: names.schedule,
+        limit: RECORDING_LIMIT,
+    };
+    let script = Input {
+        name: script,
+        limit: SCRIPT_LIMIT,
+    };
+    if names.input == "-" {
+        return load_files(alloc, host, &[image, recording, script], into);
+    }
+    let input = Input {
+        name: names.input,
+        limit: INPUT_LIMIT,
+    };
+    load_files(alloc, host, &[image, input, recording, script], into)
+}
+
+/// The script among the files that were loaded, with the input's name.
+pub fn script_in<'f>(input: &str, files: &'f [Vec<u8>]) -> &'f [u8]
+    ensures { result.now ≡ script_bytes input.now (bytes_of files.now) }
+{
+    if input == "-" {
+        return file_at(files, 2);
+    }
+    file_at(files, 3)
+}
+
+/// The end of a command on a script that has this fault: NoMemory, or a refusal with status 10.
+pub fn refuse_script(name: &str, fault: ScriptFault) -> Outcome<'_>
+    ensures { end_of result ≡ end_of_check (script_check name.now fault) }
+{
+    match fault {
+        ScriptFault::BadCommand { line } => Outcome::Refused(Refusal::Script {
+            name,
+            fault: 1,
+            line: u64::from(line),
+        }),
+        ScriptFault::OutOfRange { line } => Outcome::Refused(Refusal::Script {
+            name,
+            fault: 2,
+            line: u64::from(line),
+        }),
+        ScriptFault::NoMemory => Outcome::NoMemory,
+    }
+}

@@ -1,0 +1,121 @@
+//! Sessions over a host in memory.
+use super::*;
+use or_command::conclude;
+use or_command_line::Recorded;
+use or_host::MemHost;
+use std::alloc::{AllocError, Global};
+use std::test::Fail;
+
+// A file with one segment of four instructions at 00000100, which print `H` and stop.
+const IMAGE: [u8; 100] = [
+    0x7F, 0x45, 0x4C, 0x46, 1, 2, 1, 0, 0, 0, 0, 0, 0, 0, 0, 0, //
+    0, 2, 0, 0x5C, 0, 0, 0, 1, 0, 0, 1, 0, 0, 0, 0, 0x34, //
+    0, 0, 0, 0, 0, 0, 0, 0, 0, 0x34, 0, 0x20, 0, 1, 0, 0, //
+    0, 0, 0, 0, 0, 0, 0, 1, 0, 0, 0, 0x54, 0, 0, 1, 0, //
+    0, 0, 1, 0, 0, 0, 0, 0x10, 0, 0, 0, 0x10, 0, 0, 0, 7, //
+    0, 0, 0, 4, 0x18, 0x60, 0x90, 0, 0x9C, 0x80, 0, 0x48, 0xD8, 3, 0x20, 0, //
+    0x15, 0, 0, 1,
+];
+
+// A recording of the image with these digests and runs.
+fn recording(alloc: Global, input: &str, runs: &str) -> Result<Vec<u8>, AllocError> {
+    let mut text = Vec::from_slice(
+        alloc,
+        b"orsched 2\ncores 1 budget 1000 ram 1\nimage aee78df40702c1fb10e45d056ea3e56d0df95a9f1961bf96652f62163365026c\n",
+    )?;
+    text.extend_from_slice(input.as_bytes())?;
+    text.extend_from_slice(runs.as_bytes())?;
+    Ok(text)
+}
+
+const NO_INPUT_DIGEST: &str =
+    "input e3b0c44298fc1c149afbf4c8996fb92427ae41e4649b934ca495991b7852b855\n";
+
+const LETTER_DIGEST: &str =
+    "input 559aead08264d5795d3909718cdd05abd49572e84fe55590eef31a88a08fdffd\n";
+
+// Whether a session on a host whose call of this number fails has this status, writes this and says this.
+fn ends(
+    alloc: Global,
+    input: &str,
+    runs: &str,
+    script: &[u8],
+    call: u64,
+    wanted: (u8, &[u8], &[u8]),
+) -> Result<bool, Fail> {
+    let digest = if input == "-" {
+        NO_INPUT_DIGEST
+    } else {
+        LETTER_DIGEST
+    };
+    let mut host = MemHost::new(alloc, vec![in alloc; call]?);
+    host.put("h.elf", &IMAGE)?;
+    host.put("i", b"A")?;
+    host.put("s", &recording(alloc, digest, runs)?)?;
+    host.put("q", script)?;
+    let files = Recorded {
+        image: "h.elf",
+        input,
+        schedule: "s",
+    };
+    let outcome = debug(alloc, &files, "q", &mut host);
+    let status = conclude(&mut host, outcome);
+    Ok(status == wanted.0 && host.written() == wanted.1 && host.said() == wanted.2)
+}
+
+#[test]
+fn sessions(rt: HostRuntime) -> Result<(), Fail> {
+    let alloc = rt.alloc();
+    let script: &[u8] = b"turn 1\nmem 256 1\ngo\n";
+    let text: &[u8] = b"at turn 1\n00000100 18609000\nend turn 4\n";
+    let cases: [(&str, &[u8], u64, u8, &[u8], &[u8]); 8] = [
+        ("a4\n", script, 0, 0, text, b""),
+        ("a4\n", b"", 0, 0, b"", b""),
+        (
+            "a4\n",
+            b"regs 1\n",
+            0,
+            10,
+            b"",
+            b"or1k: script q fault 2 line 1\n",
+        ),
+        (
+            "a4\n",
+            b"go\nfrob\n",
+            0,
+            10,
+            b"",
+            b"or1k: script q fault 1 line 2\n",
+        ),
+        (
+            "a5\n",
+            b"frob\n",
+            0,
+            4,
+            b"",
+            b"or1k: schedule s turn 4 stopped\n",
+        ),
+        (
+            "a3\n",
+            script,
+            0,
+            4,
+            b"",
+            b"or1k: schedule s core 0 running\n",
+        ),
+        ("a4\n", script, 3, 5, b"", b"or1k: read q\n"),
+        (
+            "a4\n",
+            script,
+            4,
+            6,
+            b"at turn 1\n00000100 ",
+            b"or1k: write -\n",
+        ),
+    ];
+    for (runs, lines, call, status, written, said) in cases {
+        assert!(rt; ends(alloc, "-", runs, lines, call, (status, written, said))?);
+    }
+    assert!(rt; ends(alloc, "i", "a4\n", script, 0, (0, text, b""))?);
+    Ok(())
+}
