@@ -198,3 +198,58 @@ fn two_cores_run(rt: HostRuntime) -> Result<(), Fail> {
     );
     Ok(())
 }
+
+// Words that are no command: that is said, and nothing else happens.
+#[test]
+fn other_words_are_refused(rt: HostRuntime) -> Result<(), Fail> {
+    let alloc = rt.alloc();
+    let lines = [
+        "run h.elf i c c",
+        "run h.elf i s r --cores 9",
+        "run h.elf i s r --ram 1 --cores 1",
+        "run h.elf i s r --cores 01",
+        "asm i i",
+        "gen 1 9 1 t",
+        "halt",
+    ];
+    for line in lines {
+        let (status, said) = ran(&rt, alloc, &IMAGE, line)?;
+        assert!(rt;
+            status == 2 && said.as_slice() == b"or1k: usage\n".as_slice(),
+            "{line}"
+        );
+    }
+    let mut host = host(alloc, &IMAGE, 0)?;
+    assert_eq!(rt; top(&rt, alloc, &[], &mut host, &OpenGate), 2);
+    assert_eq!(rt; host.said(), b"or1k: usage\n".as_slice());
+    Ok(())
+}
+
+// A half of the top call does not know the other's commands.
+#[test]
+fn each_half_has_its_commands(rt: HostRuntime) -> Result<(), Fail> {
+    let alloc = rt.alloc();
+    let mut host = host(alloc, &IMAGE, 0)?;
+    let run = words(alloc, "run h.elf - s r --ram 1")?;
+    let dis = words(alloc, "dis h.elf")?;
+    assert_eq!(rt; top_alone(alloc, &run, &mut host), 2);
+    assert_eq!(rt; top_run(&rt, alloc, &dis, &mut host, &OpenGate), 2);
+    assert_eq!(rt; host.said(), b"or1k: usage\nor1k: usage\n".as_slice());
+    assert_eq!(rt; top_run(&rt, alloc, &run, &mut host, &OpenGate), 0);
+    assert_eq!(rt; top_alone(alloc, &dis, &mut host), 0);
+    Ok(())
+}
+
+// An empty source has a program without words, whose image has no segment.
+#[test]
+fn an_empty_source_has_no_segment(rt: HostRuntime) -> Result<(), Fail> {
+    let alloc = rt.alloc();
+    let mut host = host(alloc, &IMAGE, 0)?;
+    host.put("t", b"")?;
+    let asm = words(alloc, "asm t e.elf")?;
+    let run = words(alloc, "run e.elf - s r")?;
+    assert_eq!(rt; top(&rt, alloc, &asm, &mut host, &OpenGate), 0);
+    assert_eq!(rt; top(&rt, alloc, &run, &mut host, &OpenGate), 3);
+    assert_eq!(rt; host.said(), b"or1k: image e.elf fault 4 0\n".as_slice());
+    Ok(())
+}
