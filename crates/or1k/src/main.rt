@@ -1,7 +1,7 @@
 //! The command `or1k`.
 #![tactic(auto)]
 
-use or_cli::{FileHost, top};
+use or_cli::{FileHost, OpenGate, top};
 use std::env;
 use std::process::ExitCode;
 
@@ -19,11 +19,29 @@ or1k run IMAGE INPUT SCHED REPORT [--cores N] [--budget N] [--ram N] [--pic latc
     --ram N      RAM in MiB, 1 to 256; 32 where left out
     --pic latched    interrupt controllers that latch their lines
 
+or1k replay IMAGE INPUT SCHED REPORT
+    Follows the recording SCHED of a run of IMAGE with INPUT, and writes the report and the console as the run did.
+
+or1k asm SRC IMAGE
+    Assembles the source SRC and writes the ELF32 file of its program to IMAGE.
+
+or1k dis IMAGE
+    Writes the words of IMAGE's segments to standard output, as addresses, words and instructions.
+
+or1k debug IMAGE INPUT SCHED SCRIPT
+    Checks a recorded run as replay does, and follows it as the lines of SCRIPT say: go, turn N, break C ADDR, watch ADDR,
+    regs C, mem ADDR N, lines C, last N. Writes what they show to standard output.
+
+or1k gen SEED CORES ROUNDS SRC
+    Writes the source of a workload to SRC: CORES cores, 1 to 8, count a counter up in ROUNDS rounds each, 1 to 100000,
+    with delays that SEED gives, 0 to 4294967295. Run its image with --cores CORES --budget 10000000 --ram 1.
+
 or1k --help       prints this text
 or1k --version    prints the version
 
-Status: 0 all was done, 2 the words are no command, 3 the image has a fault, 5 a file was not read, 6 an output was
-not written, 7 no memory, 8 a file is too long, 13 an argument is no text. Where it is not 0, standard error has a line.
+Status: 0 all was done, 2 the words are no command, 3 the image has a fault, 4 the recording is refused, 5 a file was not
+read, 6 an output was not written, 7 no memory, 8 a file is too long, 9 the source has a fault, 10 the script has a
+fault, 13 an argument is no text. Where it is not 0, standard error has a line.
 ";
 
 // Whether the only word is this one.
@@ -57,5 +75,5 @@ fn main(rt: HostRuntime) -> ExitCode {
         return ExitCode::from(0);
     }
     let mut host = FileHost::new(&rt);
-    ExitCode::from(top(alloc, &words, &mut host))
+    ExitCode::from(top(&rt, alloc, &words, &mut host, &OpenGate))
 }

@@ -7,6 +7,8 @@ use Rattle.or_elf.specs.Fault.{elf_fault}
 use Rattle.or_sched.specs.declared.recording.Head.{Head}
 use Rattle.or_sched.specs.RecText.{rec_text2}
 use Rattle.or_model.specs.Turn.{Board, replay}
+use Rattle.or_replay.specs.declared.opening.OpenFault.{OpenFault}
+use Rattle.or_replay.specs.declared.opening.OpenFault.TheVariants.{Elf, NoMemory}
 use Rattle.or_replay.specs.Start.{start}
 use Rattle.or_replay.specs.Marks.{marks}
 use Rattle.or_replay.specs.Board.{all_stopped}
@@ -49,3 +51,8 @@ pub record RunWrites (names : Names) (config : Config) (files : List (List ℕ))
   pub report : List ℕ
   pub is_run : IsRun config (image_in files) (input_in files) recording report console
   pub outputs : outs ≡ record { name = names.schedule; text = recording } ∷ record { name = names.report; text = report } ∷ []
+
+-- why a run makes no texts: the image has this fault, or memory ran out
+abbrev pub RunFails : List ℕ → ℕ → OpenFault → Type 0
+RunFails image ram (Elf fault) = elf_fault image ram ≡ Some fault
+RunFails image ram NoMemory = Unit {0}

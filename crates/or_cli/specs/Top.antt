@@ -1,20 +1,33 @@
 -- What the top call says of each command.
-use Rattle.std.specs.Prelude.{◌≡◌, ◌⊎◌, ℕ, List, Bool, true, false, Option, Some, None, if◌then◌else◌}
+use Rattle.std.specs.Prelude.{ℕ, List, Bool, true, false, Option, Some, None, if◌then◌else◌}
 use Rattle.or_host.specs.HostState.{HostState}
-use Rattle.or_host.specs.Counts.{Rose}
-use Rattle.or_words.specs.declared.Config.{Config}
-use Rattle.or_command_line.specs.Names.{Names}
 use Rattle.or_command_line.specs.Command.{Shown, command_of}
-use Rattle.or_command_line.specs.Command.Shown.{run}
-use Rattle.or_command.specs.Ends.{CommandEnd, status_of}
+use Rattle.or_command_line.specs.Command.Shown.{run, replay, asm, dis, debug, gen, bench}
 use Rattle.or_command.specs.Lines.{usage_line}
 use Rattle.or_command.specs.Said.{SaidLine}
-use Rattle.or_command.specs.Outcomes.{CommandRuns, LeavesAll, AllTold, end_of_files}
+use Rattle.or_command.specs.Outcomes.{LeavesAll}
+use Rattle.or_command.specs.Answered.{Answers, AnswersBy, IsDecided, IsDecidedBy}
+use Rattle.or_command_replay.specs.Replay.{replay_loads, RecordedVerdict, ReplayWrites}
+use Rattle.or_command_debug.specs.Debug.{debug_loads, DebugVerdict, DebugWrites}
+use Rattle.or_command_source.specs.Assembly.{asm_loads, asm_check, AsmWrites}
+use Rattle.or_command_source.specs.Listing.{dis_loads, dis_check, DisWrites, DisLacks}
+use Rattle.or_command_source.specs.Generation.{gen_loads, gen_check, GenWrites}
 use Rattle.or_cli.specs.Run.{run_loads, run_check, RunWrites}
+
+-- the commands that work cores on threads, and so wait
+abbrev pub is_threaded : Shown → Bool
+is_threaded (run names config) = true
+is_threaded (bench workload schedule) = true
+is_threaded _ = false
 
 -- the commands that the top call does
 abbrev pub is_done : Shown → Bool
 is_done (run names config) = true
+is_done (replay files report) = true
+is_done (asm source image) = true
+is_done (dis image) = true
+is_done (debug files script) = true
+is_done (gen workload source) = true
 is_done _ = false
 
 abbrev pub done_command : Option Shown → Option Shown
@@ -25,27 +38,42 @@ done_command (Some command) = if is_done command then Some command else None
 abbrev pub top_command : List (List ℕ) → Option Shown
 top_command words = done_command (command_of words)
 
+abbrev pub of_threads : Option Shown → Option Shown
+of_threads None = None
+of_threads (Some command) = if is_threaded command then Some command else None
+
+abbrev pub of_one_thread : Option Shown → Option Shown
+of_one_thread None = None
+of_one_thread (Some command) = if is_threaded command then None else Some command
+
+-- that command, where it works cores on threads, and where it does not
+abbrev pub threaded_command : List (List ℕ) → Option Shown
+threaded_command words = of_threads (top_command words)
+
+abbrev pub lone_command : List (List ℕ) → Option Shown
+lone_command words = of_one_thread (top_command words)
+
 -- words that are no command: that is said, and nothing else happens
 pub record IsUsage (old new : HostState) : Type 0 where
   pub left : LeavesAll old new
   pub said : SaidLine usage_line old new
 
--- a run came to an end of this status, and stands there
-pub record RunEnds (names : Names) (config : Config) (status : ℕ) (old new : HostState) : Type 0 where
-  pub end : CommandEnd
-  pub status_is : status ≡ status_of end
-  pub runs : CommandRuns (run_loads names) (run_check names config) (RunWrites names config) LeavesAll end old new
-
--- files that are told, and no fault: the status is theirs, or memory ran out
-abbrev pub RunComplete : Names → Config → ℕ → HostState → HostState → Type 0
-RunComplete names config status old new = (files : List (List ℕ)) → AllTold (run_loads names) files new → ¬ Rose old.faults new.faults
-    → (status ≡ status_of (end_of_files (run_loads names) (run_check names config) (RunWrites names config) LeavesAll files)) ⊎ (status ≡ 7)
-
 -- what stands after a command with this status
 abbrev pub CommandEnds : Shown → ℕ → HostState → HostState → Type 0
-CommandEnds (run names config) status old new = RunEnds names config status old new
+CommandEnds (run names config) status old new = Answers (run_loads names) (run_check names config) (RunWrites names config) LeavesAll status old new
+CommandEnds (replay files report) status old new = AnswersBy (replay_loads files) (RecordedVerdict files) (ReplayWrites files report) LeavesAll status old new
+CommandEnds (asm source image) status old new = Answers (asm_loads source) (asm_check source) (AsmWrites image) LeavesAll status old new
+CommandEnds (dis image) status old new = Answers (dis_loads image) (dis_check image) DisWrites (DisLacks image) status old new
+CommandEnds (debug files script) status old new = AnswersBy (debug_loads files script) (DebugVerdict files script) (DebugWrites files) LeavesAll status old new
+CommandEnds (gen workload source) status old new = Answers gen_loads gen_check (GenWrites workload source) LeavesAll status old new
 CommandEnds _ status old new = ⊥
 
+-- where no fault came, the files decide the status, or memory ran out
 abbrev pub IsComplete : Shown → ℕ → HostState → HostState → Type 0
-IsComplete (run names config) status old new = RunComplete names config status old new
+IsComplete (run names config) status old new = IsDecided (run_loads names) (run_check names config) (RunWrites names config) LeavesAll status old new
+IsComplete (replay files report) status old new = IsDecidedBy (replay_loads files) (RecordedVerdict files) (ReplayWrites files report) LeavesAll status old new
+IsComplete (asm source image) status old new = IsDecided (asm_loads source) (asm_check source) (AsmWrites image) LeavesAll status old new
+IsComplete (dis image) status old new = IsDecided (dis_loads image) (dis_check image) DisWrites (DisLacks image) status old new
+IsComplete (debug files script) status old new = IsDecidedBy (debug_loads files script) (DebugVerdict files script) (DebugWrites files) LeavesAll status old new
+IsComplete (gen workload source) status old new = IsDecided gen_loads gen_check (GenWrites workload source) LeavesAll status old new
 IsComplete _ status old new = ⊥

@@ -2,41 +2,140 @@
 ghost use Rattle.std.specs.Prelude.{◌≡◌, ◌≢◌, ◌↔◌, ◌⊎◌, ℕ, None, IfSome};
 ghost use Rattle.or_command_line.specs.Words.{texts};
 ghost use Rattle.or_words.specs.Settings.{Fits};
-ghost use Rattle.or_command_line.specs.Names.{run_names, AreWritten};
-ghost use Rattle.or_cli.specs.Top.{top_command, IsUsage, RunEnds, RunComplete, CommandEnds, IsComplete};
+ghost use Rattle.or_command_line.specs.Names.{run_names, recorded_names, AreWritten, AreRecorded, IsReport};
+ghost use Rattle.or_command.specs.Outcomes.{LeavesAll};
+ghost use Rattle.or_command.specs.Answered.{Answers, AnswersBy, IsDecided, IsDecidedBy};
+ghost use Rattle.or_command_replay.specs.Replay.{replay_loads, RecordedVerdict, ReplayWrites};
+ghost use Rattle.or_cli.specs.Run.{run_loads, run_check, RunWrites};
+ghost use Rattle.or_command_line.specs.Words.{IsFileName};
+ghost use Rattle.or_command_debug.specs.Debug.{debug_loads, DebugVerdict, DebugWrites};
+ghost use Rattle.or_cli.specs.Top.{top_command, threaded_command, lone_command, IsUsage, CommandEnds, IsComplete};
 
 use crate::run::run;
+use or_board::Gate;
 use or_command::{conclude, say_usage};
-use or_command_line::{Command, Run, parse};
+use or_command_debug::debug;
+use or_command_line::{Command, Recorded, Run, parse};
+use or_command_replay::replay;
+use or_command_source::{asm, dis, generate};
 use or_host::Host;
 use std::alloc::Global;
+use std::sync::Wait;
+use std::thread::Threads;
 
 // Runs an image, and says how that ended.
-fn run_command<H: Host>(alloc: Global, words: &Run<'_>, host: &mut H) -> u8
+fn run_command<R: Threads + Wait + Sync, H: Host, G: Gate + Sync>(
+    rt: &R,
+    alloc: Global,
+    words: &Run<'_>,
+    host: &mut H,
+    gate: &G,
+) -> u8
     requires names { AreWritten (run_names words.now) }
     requires fits { Fits words.now.config }
-    ensures ends { RunEnds (run_names words.now) words.now.config result (H.state host.old) (H.state host.new) }
-    ensures complete { RunComplete (run_names words.now) words.now.config result (H.state host.old) (H.state host.new) }
+    ensures ends { Answers (run_loads (run_names words.now)) (run_check (run_names words.now) words.now.config) (RunWrites (run_names words.now) words.now.config) LeavesAll
+        result (H.state host.old) (H.state host.new) }
+    ensures complete { IsDecided (run_loads (run_names words.now)) (run_check (run_names words.now) words.now.config) (RunWrites (run_names words.now) words.now.config) LeavesAll
+        result (H.state host.old) (H.state host.new) }
     ensures command { result ≢ 2 }
 {
-    let outcome = run(alloc, words, host);
+    let outcome = run(rt, alloc, words, host, gate);
     conclude(host, outcome)
 }
 
+// Replays a recorded run, and says how that ended.
+fn replay_command<H: Host>(alloc: Global, names: &Recorded<'_>, report: &str, host: &mut H) -> u8
+    requires names { AreRecorded (recorded_names names.now) }
+    requires report { IsReport (recorded_names names.now) report.now }
+    ensures ends { AnswersBy (replay_loads (recorded_names names.now)) (RecordedVerdict (recorded_names names.now)) (ReplayWrites (recorded_names names.now) report.now) LeavesAll
+        result (H.state host.old) (H.state host.new) }
+    ensures complete { IsDecidedBy (replay_loads (recorded_names names.now)) (RecordedVerdict (recorded_names names.now)) (ReplayWrites (recorded_names names.now) report.now) LeavesAll
+        result (H.state host.old) (H.state host.new) }
+    ensures command { result ≢ 2 }
+{
+    let outcome = replay(alloc, names, report, host);
+    conclude(host, outcome)
+}
+
+// Debugs a recorded run, and says how that ended.
+fn debug_command<H: Host>(alloc: Global, names: &Recorded<'_>, script: &str, host: &mut H) -> u8
+    requires names { AreRecorded (recorded_names names.now) }
+    requires script { IsFileName script.now }
+    ensures ends { AnswersBy (debug_loads (recorded_names names.now) script.now) (DebugVerdict (recorded_names names.now) script.now) (DebugWrites (recorded_names names.now)) LeavesAll
+        result (H.state host.old) (H.state host.new) }
+    ensures complete { IsDecidedBy (debug_loads (recorded_names names.now) script.now) (DebugVerdict (recorded_names names.now) script.now) (DebugWrites (recorded_names names.now)) LeavesAll
+        result (H.state host.old) (H.state host.new) }
+    ensures command { result ≢ 2 }
+{
+    let outcome = debug(alloc, names, script, host);
+    conclude(host, outcome)
+}
+
+// Says that the words are no command.
+fn refuse_words<H: Host>(host: &mut H) -> u8
+    ensures status { result ≡ 2 }
+    ensures usage { IsUsage (H.state host.old) (H.state host.new) }
+{
+    say_usage(host);
+    2
+}
+
+/// Does what the words ask of the outside where that is a run on threads, and answers the status as `top` does. All other
+/// words are no command of this call. It waits.
+pub fn top_run<R: Threads + Wait + Sync, H: Host, G: Gate + Sync>(
+    rt: &R,
+    alloc: Global,
+    words: &[String],
+    host: &mut H,
+    gate: &G,
+) -> u8
+    ensures usage { (result ≡ 2) ↔ (threaded_command (texts words.now) ≡ None) }
+    ensures usage_line { threaded_command (texts words.now) ≡ None → IsUsage (H.state host.old) (H.state host.new) }
+    ensures command { IfSome (threaded_command (texts words.now)) (λ command. CommandEnds command result (H.state host.old) (H.state host.new)) }
+    ensures complete { IfSome (threaded_command (texts words.now)) (λ command. IsComplete command result (H.state host.old) (H.state host.new)) }
+{
+    match parse(words) {
+        Some(Command::Run(words)) => run_command(rt, alloc, &words, host, gate),
+        _ => refuse_words(host),
+    }
+}
+
+/// Does what the words ask of the outside where that needs one thread alone, and answers the status as `top` does. All other
+/// words are no command of this call. It always returns.
+pub fn top_alone<H: Host>(alloc: Global, words: &[String], host: &mut H) -> u8
+    ensures usage { (result ≡ 2) ↔ (lone_command (texts words.now) ≡ None) }
+    ensures usage_line { lone_command (texts words.now) ≡ None → IsUsage (H.state host.old) (H.state host.new) }
+    ensures command { IfSome (lone_command (texts words.now)) (λ command. CommandEnds command result (H.state host.old) (H.state host.new)) }
+    ensures complete { IfSome (lone_command (texts words.now)) (λ command. IsComplete command result (H.state host.old) (H.state host.new)) }
+{
+    match parse(words) {
+        Some(Command::Replay { files, report }) => replay_command(alloc, &files, report, host),
+        Some(Command::Asm { source, image }) => asm(alloc, source, image, host),
+        Some(Command::Dis { image }) => dis(alloc, image, host),
+        Some(Command::Debug { files, script }) => debug_command(alloc, &files, script, host),
+        Some(Command::Gen { workload, source }) => generate(alloc, &workload, source, host),
+        _ => refuse_words(host),
+    }
+}
+
 /// Does what the words ask of the outside, and answers the status: 0 where all was done, 2 where the words are no command,
-/// 3 where the image has a fault, 5 where a file was not read, 6 where an output was not written, 7 for want of memory,
-/// 8 where a file is too long. The line of a status other than 0 is said.
-pub fn top<H: Host>(alloc: Global, words: &[String], host: &mut H) -> u8
+/// 3 where the image has a fault, 4 where the recording is refused, 5 where a file was not read, 6 where an output was not
+/// written, 7 for want of memory, 8 where a file is too long, 9 where the source has a fault, 10 where the script has one.
+/// The line of a status other than 0 is said.
+pub fn top<R: Threads + Wait + Sync, H: Host, G: Gate + Sync>(
+    rt: &R,
+    alloc: Global,
+    words: &[String],
+    host: &mut H,
+    gate: &G,
+) -> u8
     ensures usage { (result ≡ 2) ↔ (top_command (texts words.now) ≡ None) }
     ensures usage_line { top_command (texts words.now) ≡ None → IsUsage (H.state host.old) (H.state host.new) }
     ensures command { IfSome (top_command (texts words.now)) (λ command. CommandEnds command result (H.state host.old) (H.state host.new)) }
     ensures complete { IfSome (top_command (texts words.now)) (λ command. IsComplete command result (H.state host.old) (H.state host.new)) }
 {
     match parse(words) {
-        Some(Command::Run(words)) => run_command(alloc, &words, host),
-        _ => {
-            say_usage(host);
-            2
-        }
+        Some(Command::Run(_)) => top_run(rt, alloc, words, host, gate),
+        _ => top_alone(alloc, words, host),
     }
 }

@@ -4,7 +4,8 @@
 mod commands;
 mod run;
 
-pub use commands::top;
+pub use commands::{top, top_alone, top_run};
+pub use or_board::{Gate, OpenGate};
 pub use or_host::{Blame, Deed, Failed, FileHost, Host, LoadFail, MemHost, SureHost};
 
 #[cfg(test)]

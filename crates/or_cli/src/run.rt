@@ -2,7 +2,8 @@
 ghost use Rattle.std.specs.Prelude.{◌≡◌, ◌≤◌, [], ◌∷◌, None, Some, IfOk, MatchResult, length};
 ghost use Rattle.or_sched.specs.Schedule.{IsSchedule, AreMarks};
 ghost use Rattle.or_model.specs.Turn.{Board as BoardModel};
-ghost use Rattle.or_replay.specs.Rounds.{IsFinished};
+ghost use Rattle.or_replay.specs.Board.{AreOfBus};
+ghost use Rattle.or_board.specs.Works.{IsThreadedRun};
 ghost use Rattle.or_words.specs.Settings.{Fits, ram_bytes};
 ghost use Rattle.or_elf.specs.Fault.{elf_fault};
 ghost use Rattle.or_command_line.specs.Names.{run_names, AreWritten};
@@ -11,18 +12,23 @@ ghost use Rattle.or_command.specs.Ends.{end_of};
 ghost use Rattle.or_command.specs.Outcomes.{CommandOutcome, LeavesAll};
 ghost use Rattle.or_command.specs.Loads.{bytes_of};
 ghost use Rattle.or_command_image.specs.Loaded.{image_in as image_of};
-ghost use Rattle.or_cli.specs.Run.{run_loads, run_check, head_of, IsRun, IsRunFrom, RunWrites};
-ghost use Rattle.or_cli.specs.Finish.{WriteEnds, FinishEnds, RunFails};
+ghost use Rattle.or_command.specs.Finishing.{WriteEnds};
+ghost use Rattle.or_command.specs.Answered.{FinishEnds};
+ghost use Rattle.or_cli.specs.Run.{run_loads, run_check, head_of, IsRun, IsRunFrom, RunWrites, RunFails};
 
+use or_board::Gate;
 use or_command::{LoadStop, Outcome, Output, Refusal, write_outputs};
 use or_command_image::{image_in, input_in, load_image};
 use or_command_line::Run;
 use or_host::Host;
-use or_replay::{Finished, OpenFault, report, run_rounds};
+use or_replay::{OpenFault, report};
 use or_sched::Head;
+use or_turn::Closed;
 use or_words::{Config, NoMemory};
 use sha2::{Digest, Sha256};
 use std::alloc::Global;
+use std::sync::Wait;
+use std::thread::Threads;
 
 // What a run writes.
 #[derive(Drop)]
@@ -45,21 +51,22 @@ fn head(config: &Config, image: &[u8], input: &[u8]) -> Head
 
 // The texts of a run that has come to its end.
 #[tactic(auto, using(crate::proofs::Runs::runs))]
-fn texts(alloc: Global, head: &Head, finished: Finished) -> Result<RunTexts, NoMemory>
+fn texts(alloc: Global, head: &Head, closed: Closed) -> Result<RunTexts, NoMemory>
     requires fits { Fits head.now.config }
-    requires schedule { IsSchedule head.now.config finished.schedule.items }
-    requires marks { AreMarks finished.schedule.items finished.marks.items }
-    ensures { IfOk result (λ texts. (start : BoardModel) → IsFinished start finished
+    requires schedule { IsSchedule head.now.config closed.schedule.items }
+    requires marks { AreMarks closed.schedule.items closed.marks.items }
+    requires order { AreOfBus closed.cores.items closed.bus }
+    ensures { IfOk result (λ texts. (start : BoardModel) → IsThreadedRun start closed
         → IsRunFrom start head.now texts.recording.items texts.report.items texts.console.items) }
 {
-    let Finished {
-        board,
+    let Closed {
+        cores,
+        bus,
         schedule,
         marks,
-    } = finished;
+    } = closed;
     let mut recording = Vec::new(alloc);
     or_sched::write(head, &schedule, &marks, &mut recording)?;
-    let (cores, bus) = board.into_parts();
     let mut text = Vec::new(alloc);
     let console = report(
         alloc,
@@ -77,7 +84,14 @@ fn texts(alloc: Global, head: &Head, finished: Finished) -> Result<RunTexts, NoM
 
 // Runs the image with the input, and makes the texts.
 #[tactic(auto, unfolding(crate::specs::Run::head_of))]
-fn make(alloc: Global, config: &Config, image: &[u8], input: &[u8]) -> Result<RunTexts, OpenFault>
+fn make<R: Threads + Wait + Sync, G: Gate + Sync>(
+    rt: &R,
+    alloc: Global,
+    config: &Config,
+    image: &[u8],
+    input: &[u8],
+    gate: &G,
+) -> Result<RunTexts, OpenFault>
     requires fits { Fits config.now }
     requires limit { length image.now ≤ 67108864 }
     ensures run { MatchResult result
@@ -87,8 +101,8 @@ fn make(alloc: Global, config: &Config, image: &[u8], input: &[u8]) -> Result<Ru
     let Ok(bytes) = Vec::from_slice(alloc, input) else {
         return Err(OpenFault::NoMemory);
     };
-    match run_rounds(alloc, config, image, bytes) {
-        Ok(finished) => match texts(alloc, &head(config, image, input), finished) {
+    match or_board::run(rt, alloc, config, image, bytes, gate) {
+        Ok(closed) => match texts(alloc, &head(config, image, input), closed) {
             Ok(texts) => Ok(texts),
             Err(_) => Err(OpenFault::NoMemory),
         },
@@ -97,19 +111,28 @@ fn make(alloc: Global, config: &Config, image: &[u8], input: &[u8]) -> Result<Ru
 }
 
 // How a run on files that were loaded ends.
-fn finish<'a, H: Host>(
+fn finish<'a, R: Threads + Wait + Sync, H: Host, G: Gate + Sync>(
+    rt: &R,
     alloc: Global,
     words: &Run<'a>,
     files: &[Vec<u8>],
     host: &mut H,
+    gate: &G,
 ) -> Outcome<'a>
     requires names { AreWritten (run_names words.now) }
     requires fits { Fits words.now.config }
     requires limit { length (image_of (bytes_of files.now)) ≤ 67108864 }
-    ensures outcome { FinishEnds (run_names words.now) words.now.config (bytes_of files.now) (end_of result) (H.state host.old) (H.state host.new) }
+    ensures outcome { FinishEnds (run_check (run_names words.now) words.now.config) (RunWrites (run_names words.now) words.now.config) (bytes_of files.now) (end_of result) (H.state host.old) (H.state host.new) }
     ensures silent { Silent (H.state host.old) (H.state host.new) }
 {
-    match make(alloc, &words.config, image_in(files), input_in(files)) {
+    match make(
+        rt,
+        alloc,
+        &words.config,
+        image_in(files),
+        input_in(files),
+        gate,
+    ) {
         Ok(texts) => write(words, &texts, host),
         Err(OpenFault::NoMemory) => Outcome::NoMemory,
         Err(OpenFault::Elf(fault)) => Outcome::Refused(Refusal::Image {
@@ -141,9 +164,15 @@ fn write<'a, H: Host>(words: &Run<'a>, texts: &RunTexts, host: &mut H) -> Outcom
     }
 }
 
-/// Runs an image: loads it and the input, runs all cores until they have stopped, and writes the recording, the report and
+/// Runs an image: loads it and the input, works each core on a thread of its own until it has stopped, and writes the recording, the report and
 /// the console.
-pub(crate) fn run<'a, H: Host>(alloc: Global, words: &Run<'a>, host: &mut H) -> Outcome<'a>
+pub(crate) fn run<'a, R: Threads + Wait + Sync, H: Host, G: Gate + Sync>(
+    rt: &R,
+    alloc: Global,
+    words: &Run<'a>,
+    host: &mut H,
+    gate: &G,
+) -> Outcome<'a>
     requires names { AreWritten (run_names words.now) }
     requires fits { Fits words.now.config }
     ensures outcome { CommandOutcome (run_loads (run_names words.now)) (run_check (run_names words.now) words.now.config) (RunWrites (run_names words.now) words.now.config) LeavesAll
@@ -152,7 +181,7 @@ pub(crate) fn run<'a, H: Host>(alloc: Global, words: &Run<'a>, host: &mut H) -> 
 {
     let mut files = Vec::new(alloc);
     match load_image(alloc, host, words.image, words.input, &mut files) {
-        Ok(()) => finish(alloc, words, files.as_slice(), host),
+        Ok(()) => finish(rt, alloc, words, files.as_slice(), host, gate),
         Err(LoadStop::Unread(name)) => Outcome::Unread(name),
         Err(LoadStop::TooLong(name, limit)) => Outcome::TooLong(name, limit),
         Err(LoadStop::NoMemory) => Outcome::NoMemory,

@@ -1,7 +1,9 @@
 //! Runs of the top call over a host in memory.
 use super::*;
 use std::alloc::{AllocError, Global};
+use std::sync::Wait;
 use std::test::Fail;
+use std::thread::Threads;
 
 // A file with one segment of four instructions at 00000100, which print `H` and stop.
 const IMAGE: [u8; 100] = [
@@ -34,7 +36,13 @@ fn host(alloc: Global, image: &[u8], call: u64) -> Result<MemHost, Fail> {
 fn the_board_says_hello(rt: HostRuntime) -> Result<(), Fail> {
     let alloc = rt.alloc();
     let mut host = host(alloc, &IMAGE, 0)?;
-    let status = top(alloc, &words(alloc, "run h.elf - s r")?, &mut host);
+    let status = top(
+        &rt,
+        alloc,
+        &words(alloc, "run h.elf - s r")?,
+        &mut host,
+        &OpenGate,
+    );
     assert_eq!(rt; status, 0);
     assert!(rt; host.written() == b"H".as_slice());
     assert!(rt; host.said().is_empty());
@@ -63,9 +71,23 @@ fn the_board_says_hello(rt: HostRuntime) -> Result<(), Fail> {
     Ok(())
 }
 
+// Whether the host holds the first half of a text under a name, with the half rounded down.
+fn is_half(part: Option<&[u8]>, whole: &[u8]) -> bool {
+    match part {
+        Some(part) => part.len() == whole.len() / 2 && whole.starts_with(part),
+        None => false,
+    }
+}
+
+// What a failing call leaves: the outputs before it are whole, its own is as before or a half, and the others are as before.
 #[test]
 fn each_call_fails_in_turn(rt: HostRuntime) -> Result<(), Fail> {
     let alloc = rt.alloc();
+    let words = words(alloc, "run h.elf i s r --ram 1")?;
+    let mut sound = host(alloc, &IMAGE, 0)?;
+    assert_eq!(rt; top(&rt, alloc, &words, &mut sound, &OpenGate), 0);
+    let recording = sound.file("s").ok_or("no recording")?;
+    let report = sound.file("r").ok_or("no report")?;
     let said: [&[u8]; 7] = [
         b"or1k: read h.elf\n",
         b"or1k: read i\n",
@@ -78,33 +100,67 @@ fn each_call_fails_in_turn(rt: HostRuntime) -> Result<(), Fail> {
     for (index, line) in said.iter().enumerate() {
         let call = index as u64 + 1;
         let mut host = host(alloc, &IMAGE, call)?;
-        let status = top(alloc, &words(alloc, "run h.elf i s r --ram 1")?, &mut host);
+        let status = top(&rt, alloc, &words, &mut host, &OpenGate);
         assert_eq!(rt; status, if call <= 2 { 5 } else { 6 });
         assert_eq!(rt; host.said(), *line);
-        assert_eq!(rt; host.file("s").is_some(), call > 3);
-        assert_eq!(rt; host.file("r").is_some(), call > 5);
         assert_eq!(rt; host.written().len(), 0);
+        assert_eq!(rt; host.file("s").is_some(), call > 3);
+        assert_eq!(rt; is_half(host.file("s"), recording), call == 4);
+        assert_eq!(rt; host.file("s") == Some(recording), call > 4);
+        assert_eq!(rt; host.file("r").is_some(), call > 5);
+        assert_eq!(rt; is_half(host.file("r"), report), call == 6);
+        assert_eq!(rt; host.file("r") == Some(report), call == 7);
     }
     Ok(())
 }
 
+// A fault of what is said changes no status.
+#[test]
+fn a_line_may_fail(rt: HostRuntime) -> Result<(), Fail> {
+    let alloc = rt.alloc();
+    let mut host = host(alloc, &IMAGE[..51], 2)?;
+    let words = words(alloc, "run h.elf - s r")?;
+    assert_eq!(rt; top(&rt, alloc, &words, &mut host, &OpenGate), 3);
+    assert_eq!(rt; host.said(), b"or1k: ".as_slice());
+    assert!(rt; host.file("s").is_none() && host.file("r").is_none());
+    Ok(())
+}
+
+#[test]
+fn an_image_may_be_too_long(rt: HostRuntime) -> Result<(), Fail> {
+    let alloc = rt.alloc();
+    let image = vec![in alloc; 0u8; 67_108_865]?;
+    let (status, said) = ran(&rt, alloc, &image, "run h.elf - s r")?;
+    assert_eq!(rt; status, 8);
+    assert_eq!(rt;
+        said.as_slice(),
+        b"or1k: too long h.elf 67108864\n".as_slice()
+    );
+    Ok(())
+}
+
 // The status of a run of an image, and what is said of it.
-fn ran(alloc: Global, image: &[u8], line: &str) -> Result<(u8, Vec<u8>), Fail> {
+fn ran<R: Threads + Wait + Sync>(
+    rt: &R,
+    alloc: Global,
+    image: &[u8],
+    line: &str,
+) -> Result<(u8, Vec<u8>), Fail> {
     let mut host = host(alloc, image, 0)?;
-    let status = top(alloc, &words(alloc, line)?, &mut host);
+    let status = top(rt, alloc, &words(alloc, line)?, &mut host, &OpenGate);
     Ok((status, Vec::from_slice(alloc, host.said())?))
 }
 
 #[test]
 fn images_are_refused(rt: HostRuntime) -> Result<(), Fail> {
     let alloc = rt.alloc();
-    let (status, said) = ran(alloc, &IMAGE[..51], "run h.elf - s r")?;
+    let (status, said) = ran(&rt, alloc, &IMAGE[..51], "run h.elf - s r")?;
     assert!(rt; status == 3 && said.as_slice() == b"or1k: image h.elf fault 1 51\n".as_slice());
-    let (status, said) = ran(alloc, &IMAGE[..83], "run h.elf - s r")?;
+    let (status, said) = ran(&rt, alloc, &IMAGE[..83], "run h.elf - s r")?;
     assert!(rt; status == 3 && said.as_slice() == b"or1k: image h.elf fault 1 83\n".as_slice());
-    let (status, said) = ran(alloc, &IMAGE, "run h.elf - s s")?;
+    let (status, said) = ran(&rt, alloc, &IMAGE, "run h.elf - s s")?;
     assert!(rt; status == 2 && said.as_slice() == b"or1k: usage\n".as_slice());
-    let (status, said) = ran(alloc, &IMAGE, "run x - s r")?;
+    let (status, said) = ran(&rt, alloc, &IMAGE, "run x - s r")?;
     assert!(rt; status == 5 && said.as_slice() == b"or1k: read x\n".as_slice());
     Ok(())
 }
@@ -119,27 +175,81 @@ fn segments_end_within_ram(rt: HostRuntime) -> Result<(), Fail> {
     image[65] = 0x0F;
     image[66] = 0xFF;
     image[67] = 0xF0;
-    let (status, said) = ran(alloc, &image, "run h.elf - s r --budget 1 --ram 1")?;
+    let (status, said) = ran(&rt, alloc, &image, "run h.elf - s r --budget 1 --ram 1")?;
     assert!(rt; status == 0 && said.is_empty());
     image[75] = 0x11;
-    let (status, said) = ran(alloc, &image, "run h.elf - s r --budget 1 --ram 1")?;
+    let (status, said) = ran(&rt, alloc, &image, "run h.elf - s r --budget 1 --ram 1")?;
     assert!(rt; status == 3 && said.as_slice() == b"or1k: image h.elf fault 6 0\n".as_slice());
     Ok(())
 }
 
-// Two cores take turns by rounds.
+// Whatever the order of their turns, each core makes two.
 #[test]
-fn cores_take_turns(rt: HostRuntime) -> Result<(), Fail> {
+fn two_cores_run(rt: HostRuntime) -> Result<(), Fail> {
     let alloc = rt.alloc();
     let mut image = IMAGE;
     image[84..92].copy_from_slice(&[0xA8, 0x60, 0, 0, 0x15, 0, 0, 1]);
     let mut host = host(alloc, &image, 0)?;
-    let status = top(
-        alloc,
-        &words(alloc, "run h.elf - s r --cores 2 --ram 1")?,
-        &mut host,
+    let words = words(alloc, "run h.elf - s r --cores 2 --ram 1")?;
+    assert_eq!(rt; top(&rt, alloc, &words, &mut host, &OpenGate), 0);
+    let report = host.file("r").ok_or("no report")?;
+    assert!(rt;
+        report.starts_with(b"orreport 1\ncores 2 turns 4 console 0\ncore 0 exit 00000000 steps 2 ")
     );
-    assert_eq!(rt; status, 0);
-    assert!(rt; host.file("s").ok_or("no recording")?.ends_with(b"\nabab\n"));
+    Ok(())
+}
+
+// Words that are no command: that is said, and nothing else happens.
+#[test]
+fn other_words_are_refused(rt: HostRuntime) -> Result<(), Fail> {
+    let alloc = rt.alloc();
+    let lines = [
+        "run h.elf i c c",
+        "run h.elf i s r --cores 9",
+        "run h.elf i s r --ram 1 --cores 1",
+        "run h.elf i s r --cores 01",
+        "asm i i",
+        "gen 1 9 1 t",
+        "halt",
+    ];
+    for line in lines {
+        let (status, said) = ran(&rt, alloc, &IMAGE, line)?;
+        assert!(rt;
+            status == 2 && said.as_slice() == b"or1k: usage\n".as_slice(),
+            "{line}"
+        );
+    }
+    let mut host = host(alloc, &IMAGE, 0)?;
+    assert_eq!(rt; top(&rt, alloc, &[], &mut host, &OpenGate), 2);
+    assert_eq!(rt; host.said(), b"or1k: usage\n".as_slice());
+    Ok(())
+}
+
+// A half of the top call does not know the other's commands.
+#[test]
+fn each_half_has_its_commands(rt: HostRuntime) -> Result<(), Fail> {
+    let alloc = rt.alloc();
+    let mut host = host(alloc, &IMAGE, 0)?;
+    let run = words(alloc, "run h.elf - s r --ram 1")?;
+    let dis = words(alloc, "dis h.elf")?;
+    assert_eq!(rt; top_alone(alloc, &run, &mut host), 2);
+    assert_eq!(rt; top_run(&rt, alloc, &dis, &mut host, &OpenGate), 2);
+    assert_eq!(rt; host.said(), b"or1k: usage\nor1k: usage\n".as_slice());
+    assert_eq!(rt; top_run(&rt, alloc, &run, &mut host, &OpenGate), 0);
+    assert_eq!(rt; top_alone(alloc, &dis, &mut host), 0);
+    Ok(())
+}
+
+// An empty source has a program without words, whose image has no segment.
+#[test]
+fn an_empty_source_has_no_segment(rt: HostRuntime) -> Result<(), Fail> {
+    let alloc = rt.alloc();
+    let mut host = host(alloc, &IMAGE, 0)?;
+    host.put("t", b"")?;
+    let asm = words(alloc, "asm t e.elf")?;
+    let run = words(alloc, "run e.elf - s r")?;
+    assert_eq!(rt; top(&rt, alloc, &asm, &mut host, &OpenGate), 0);
+    assert_eq!(rt; top(&rt, alloc, &run, &mut host, &OpenGate), 3);
+    assert_eq!(rt; host.said(), b"or1k: image e.elf fault 4 0\n".as_slice());
     Ok(())
 }

@@ -1,6 +1,6 @@
 -- Where no fault came, a command comes to what its files come to.
 use Rattle.std.proofs.Common.{◌≡◌, ◌∙◌, sym, ap, refl, subst, ℕ, List, [], ◌∷◌, ◌++◌, ◌+◌, ◌<◌, ◌≤◌, length, Option, Some, None, true, false, cond, inl, inr, arith, length-append}
-use Rattle.std.specs.Prelude.{IfSome, ◌⊎◌, nat_lt, ⊤}
+use Rattle.std.specs.Prelude.{IfSome, ◌⊎◌, nat_lt}
 use Rattle.std.proofs.lemmas.Bool.Decides.{nat_tests}
 use Rattle.or_host.specs.Bytes.{IsPrefix}
 use Rattle.or_host.specs.Told.{Content, IsPrefixOfFile}
@@ -9,6 +9,7 @@ use Rattle.or_host.specs.HostState.{HostState}
 use Rattle.or_command.specs.Writes.{File, WriteStopped}
 use Rattle.or_command.specs.Loads.{Load, AreRead}
 use Rattle.or_command.specs.Ends.{FailedCheck, CommandEnd, done, unread, too_long, refused, unwritten, no_memory}
+use Rattle.or_command.specs.Answered.{AllFit}
 use Rattle.or_command.specs.Outcomes.{first_long, end_by, AllTold, OutcomeBy, IsJudged, EndsBy, IsEndOf, Computes, CommandOutcome, end_of_files}
 
 -- what is told is what was read
@@ -91,12 +92,6 @@ complete_by loads Verdict Writes Lacking (too_long name limit) a b files outcome
 complete_by loads Verdict Writes Lacking (unread name) a b files outcome told sound = absurd (sound outcome.stopped.cause.rose)
 complete_by loads Verdict Writes Lacking (unwritten name) a b files outcome told sound = absurd (sound (stops_rose outcome.outs outcome.console name a b outcome.stopped))
 complete_by loads Verdict Writes Lacking no_memory a b files outcome told sound = inr refl
-
--- each of these files is within its limit
-abbrev pub AllFit : List Load → List (List ℕ) → Type 0
-AllFit [] files = ⊤
-AllFit (load ∷ loads) [] = ⊤
-AllFit (load ∷ loads) (file ∷ files) = (length file ≤ load.limit) × AllFit loads files
 
 -- a file that was read is within its limit
 long_not_read : (front : List Load) (load : Load) (rest : List Load) (files : List (List ℕ)) (file : List ℕ) (b : HostState)

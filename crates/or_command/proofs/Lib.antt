@@ -5,3 +5,4 @@ pub mod LoadsLemmas
 pub mod OutcomesLemmas
 pub mod CompleteLemmas
 pub mod FinishingLemmas
+pub mod AnsweredLemmas

@@ -19,7 +19,7 @@ use Rattle.or_command.proofs.TellsLemmas.{same_then, told_then, same_then_step, 
 use Rattle.or_command.proofs.SaysLemmas.{line_after_silence}
 
 -- what was read stays read where no name changes
-read_stays : (loads : List Load) (files : List (List ℕ)) (b c : HostState) → ((name : List ℕ) → TellsSame (b.holds name) (c.holds name)) → AreRead loads files b → AreRead loads files c
+pub read_stays : (loads : List Load) (files : List (List ℕ)) (b c : HostState) → ((name : List ℕ) → TellsSame (b.holds name) (c.holds name)) → AreRead loads files b → AreRead loads files c
 read_stays [] [] b c same read = tt
 read_stays [] (file ∷ files) b c same read = absurd read
 read_stays (load ∷ loads) [] b c same read = absurd read

@@ -5,13 +5,13 @@ use Rattle.or_command.specs.Writes.{File, AllWritten, WriteStopped}
 use Rattle.or_command.specs.Ends.{FailedCheck, CommandEnd, done, unread, too_long, refused, unwritten, no_memory}
 
 -- the outputs are written, or a write of them fails
-abbrev pub WritesEnd : List File → List ℕ → CommandEnd → HostState → HostState → Type 0
-WritesEnd files console done old new = AllWritten files console old new
-WritesEnd files console (unwritten name) old new = WriteStopped files console name old new
-WritesEnd files console (unread name) old new = ⊥
-WritesEnd files console (too_long name limit) old new = ⊥
-WritesEnd files console (refused fault) old new = ⊥
-WritesEnd files console no_memory old new = ⊥
+abbrev pub WriteEnds : List File → List ℕ → CommandEnd → HostState → HostState → Type 0
+WriteEnds files console done old new = AllWritten files console old new
+WriteEnds files console (unwritten name) old new = WriteStopped files console name old new
+WriteEnds files console (unread name) old new = ⊥
+WriteEnds files console (too_long name limit) old new = ⊥
+WriteEnds files console (refused fault) old new = ⊥
+WriteEnds files console no_memory old new = ⊥
 
 -- what a check comes to that fails, or that finds no memory
 abbrev pub end_of_check : Option FailedCheck → CommandEnd
@@ -20,16 +20,16 @@ end_of_check (Some check) = refused check
 
 -- a command as in Outcomes, by its verdict and by what it writes
 module _ (Verdict : List (List ℕ) → Option FailedCheck → Type 0) (Writes : List (List ℕ) → List File → List ℕ → Type 0) where
-  pub record WritesOf (files : List (List ℕ)) (end : CommandEnd) (old new : HostState) : Type 0 where
+  pub record WritesSoFar (files : List (List ℕ)) (end : CommandEnd) (old new : HostState) : Type 0 where
     pub sound : Verdict files None
     pub outs : List File
     pub console : List ℕ
     pub writes : Writes files outs console
-    pub ends : WritesEnd outs console end old new
+    pub ends : WriteEnds outs console end old new
 
   abbrev pub GoesOn : List (List ℕ) → CommandEnd → HostState → HostState → Type 0
-  GoesOn files done old new = WritesOf files done old new
-  GoesOn files (unwritten name) old new = WritesOf files (unwritten name) old new
+  GoesOn files done old new = WritesSoFar files done old new
+  GoesOn files (unwritten name) old new = WritesSoFar files (unwritten name) old new
   GoesOn files (refused fault) old new = Verdict files (Some fault) × (new ≡ old)
   GoesOn files no_memory old new = new ≡ old
   GoesOn files (unread name) old new = ⊥

@@ -6,3 +6,4 @@ pub mod Said
 pub mod Ends
 pub mod Outcomes
 pub mod Finishing
+pub mod Answered

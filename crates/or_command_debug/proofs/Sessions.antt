@@ -5,7 +5,7 @@ use Rattle.or_command.specs.Loads.{Load}
 use Rattle.or_command.specs.Writes.{File}
 use Rattle.or_command.specs.Ends.{FailedCheck, CommandEnd, done, unread, too_long, refused, unwritten, no_memory}
 use Rattle.or_command.specs.Outcomes.{AreApart}
-use Rattle.or_command.specs.Finishing.{WritesEnd, WritesOf, GoesOn, end_of_check}
+use Rattle.or_command.specs.Finishing.{WriteEnds, WritesSoFar, GoesOn, end_of_check}
 use Rattle.or_command_line.specs.Names.{Recorded}
 use Rattle.or_command_image.specs.Loaded.{RecordedBytes}
 use Rattle.or_script.specs.declared.fault.ScriptFault.{ScriptFault}
@@ -17,7 +17,7 @@ use Rattle.or_command_replay.specs.Replay.{bytes_in}
 use Rattle.or_command_debug.specs.Debug.{debug_loads, script_bytes, script_check, HasScriptFault, DebugVerdict, DebugWrites, IsDebugged, IsText}
 
 written : (names : Recorded) (name : List ℕ) (files : List (List ℕ)) (text : List ℕ) (end : CommandEnd) (a b : HostState)
-    → IsDebugged (bytes_in names files) (script_bytes names.input files) text → WritesEnd [] text end a b → WritesOf (DebugVerdict names name) (DebugWrites names) files end a b
+    → IsDebugged (bytes_in names files) (script_bytes names.input files) text → WriteEnds [] text end a b → WritesSoFar (DebugVerdict names name) (DebugWrites names) files end a b
 written names name files text end a b is ends = record {
   sound = record { head = is.head; turns = is.turns; marks = is.marks; checked = is.checked; fault_is = is.no_fault };
   outs = [];
@@ -28,7 +28,7 @@ written names name files text end a b is ends = record {
 
 -- a text that is written, or not
 pub written_ends : (names : Recorded) (name : List ℕ) (files : List (List ℕ)) (text : List ℕ) (end : CommandEnd) (a b : HostState)
-    → IsDebugged (bytes_in names files) (script_bytes names.input files) text → WritesEnd [] text end a b → GoesOn (DebugVerdict names name) (DebugWrites names) files end a b
+    → IsDebugged (bytes_in names files) (script_bytes names.input files) text → WriteEnds [] text end a b → GoesOn (DebugVerdict names name) (DebugWrites names) files end a b
 written_ends names name files text done a b is ends = written names name files text done a b is ends
 written_ends names name files text (unwritten other) a b is ends = written names name files text (unwritten other) a b is ends
 written_ends names name files text (unread other) a b is ends = absurd ends

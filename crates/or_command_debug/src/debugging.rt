@@ -5,7 +5,7 @@ ghost use Rattle.or_host.specs.Calls.{IsName};
 ghost use Rattle.or_words.specs.Settings.{Fits};
 ghost use Rattle.or_command.specs.Leaves.{Silent};
 ghost use Rattle.or_command.specs.Ends.{end_of};
-ghost use Rattle.or_command.specs.Finishing.{WritesEnd, GoesOn};
+ghost use Rattle.or_command.specs.Finishing.{WriteEnds, GoesOn};
 ghost use Rattle.or_command.specs.Outcomes.{OutcomeBy, LeavesAll};
 ghost use Rattle.or_command.specs.Loads.{bytes_of};
 ghost use Rattle.or_command_line.specs.Names.{recorded_names, AreRecorded};
@@ -65,7 +65,7 @@ fn text(
 
 // Writes the text.
 fn write<'a, H: Host>(text: &[u8], host: &mut H) -> Outcome<'a>
-    ensures outcome { WritesEnd [] text.now (end_of result) (H.state host.old) (H.state host.new) }
+    ensures outcome { WriteEnds [] text.now (end_of result) (H.state host.old) (H.state host.new) }
     ensures silent { Silent (H.state host.old) (H.state host.new) }
 {
     match write_outputs(host, &[], text) {

@@ -9,7 +9,7 @@ use Rattle.or_command.specs.Loads.{AreRead}
 use Rattle.or_command.specs.Writes.{File}
 use Rattle.or_command.specs.Ends.{FailedCheck, CommandEnd, done, unread, too_long, refused, unwritten, no_memory}
 use Rattle.or_command.specs.Outcomes.{AreApart}
-use Rattle.or_command.specs.Finishing.{WritesEnd, WritesOf, GoesOn, end_of_check}
+use Rattle.or_command.specs.Finishing.{WriteEnds, WritesSoFar, GoesOn, end_of_check}
 use Rattle.or_command_line.specs.Names.{Recorded, IsReport}
 use Rattle.or_command_image.specs.Loaded.{RecordedBytes, is_no_input, input_limit, recording_limit}
 use Rattle.or_replay.specs.Report.{report_text}
@@ -78,8 +78,8 @@ checked_of bytes image input recording run same_image same_input same_recording 
     (subst (λ (x : List ℕ). IsRunChecked image x bytes.recording run) same_input (subst (λ (x : List ℕ). IsRunChecked image input x run) same_recording checked))
 
 written : (names : Recorded) (report : List ℕ) (files : List (List ℕ)) (text console : List ℕ) (end : CommandEnd) (a b : HostState)
-    → IsReplayed (bytes_in names files) text console → WritesEnd (record { name = report; text = text } ∷ []) console end a b
-    → WritesOf (RecordedVerdict names) (ReplayWrites names report) files end a b
+    → IsReplayed (bytes_in names files) text console → WriteEnds (record { name = report; text = text } ∷ []) console end a b
+    → WritesSoFar (RecordedVerdict names) (ReplayWrites names report) files end a b
 written names report files text console end a b replayed ends = record {
   sound = record { head = replayed.head; turns = replayed.turns; marks = replayed.marks; checked = replayed.checked };
   outs = record { name = report; text = text } ∷ [];
@@ -90,7 +90,7 @@ written names report files text console end a b replayed ends = record {
 
 -- a report that is written, or not
 pub written_ends : (names : Recorded) (report : List ℕ) (files : List (List ℕ)) (text console : List ℕ) (end : CommandEnd) (a b : HostState)
-    → IsReplayed (bytes_in names files) text console → WritesEnd (record { name = report; text = text } ∷ []) console end a b
+    → IsReplayed (bytes_in names files) text console → WriteEnds (record { name = report; text = text } ∷ []) console end a b
     → GoesOn (RecordedVerdict names) (ReplayWrites names report) files end a b
 written_ends names report files text console done a b replayed ends = written names report files text console done a b replayed ends
 written_ends names report files text console (unwritten name) a b replayed ends = written names report files text console (unwritten name) a b replayed ends

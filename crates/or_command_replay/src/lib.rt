@@ -2,9 +2,13 @@
 #![tactic(auto)]
 
 mod checked;
+pub mod laws;
 mod refused;
 mod replaying;
 
 pub use checked::{Checked, Recording, RunFault, check, open_board};
 pub use refused::refuse;
 pub use replaying::replay;
+
+#[cfg(test)]
+mod tests;

@@ -4,7 +4,7 @@ ghost use Rattle.or_host.specs.HostState.{HostState};
 ghost use Rattle.or_host.specs.Calls.{IsName};
 ghost use Rattle.or_command.specs.Leaves.{Silent};
 ghost use Rattle.or_command.specs.Ends.{end_of};
-ghost use Rattle.or_command.specs.Finishing.{WritesEnd, GoesOn};
+ghost use Rattle.or_command.specs.Finishing.{WriteEnds, GoesOn};
 ghost use Rattle.or_command.specs.Outcomes.{OutcomeBy, LeavesAll};
 ghost use Rattle.or_command.specs.Loads.{bytes_of};
 ghost use Rattle.or_command_line.specs.Names.{recorded_names, AreRecorded, IsReport};
@@ -49,7 +49,7 @@ fn texts(alloc: Global, run: Checked) -> Result<ReplayTexts, NoMemory>
 // Writes the texts.
 fn write<'a, H: Host>(report: &'a str, texts: &ReplayTexts, host: &mut H) -> Outcome<'a>
     requires name { IsName report.now }
-    ensures outcome { WritesEnd (record { name = report.now; text = texts.now.report.items } ∷ []) texts.now.console.items (end_of result) (H.state host.old) (H.state host.new) }
+    ensures outcome { WriteEnds (record { name = report.now; text = texts.now.report.items } ∷ []) texts.now.console.items (end_of result) (H.state host.old) (H.state host.new) }
     ensures silent { Silent (H.state host.old) (H.state host.new) }
 {
     let output = Output {

@@ -1,10 +1,9 @@
--- Which instructions make no access to RAM, and that instruction lines have no part in one.
+-- What the bus's answers say of an access to RAM; misplaced instructions and instruction lines have no part in one.
 use Rattle.std.proofs.Common.{◌≡◌, ℕ, Bool, true, false, cond, refl, ap, sym, subst, ◌∙◌, rules}
 use Rattle.std.specs.Prelude.{List, Option, Some, None, Ok, Err, ◌&&◌, option_map}
 use Rattle.or_words.specs.declared.Width.TheVariants.{Word}
 use Rattle.or_isa.specs.declared.Insn.{Insn}
 use Rattle.or_isa.specs.declared.Insn.TheVariants.{Lwa, Lwz, Lws, Lbz, Lbs, Lhz, Lhs, Swa, Sw, Sb, Sh}
-use Rattle.or_isa.specs.Bus.{needs_bus_of}
 use Rattle.or_model.specs.Core.{Core}
 use Rattle.or_parts.specs.Memory.{value_at}
 use Rattle.or_parts.specs.Lines.{line_bytes}
@@ -19,22 +18,7 @@ use Rattle.or_bus.specs.Represents.{Represents}
 use Rattle.or_bus.specs.Answers.{IsAnswer}
 use Rattle.or_core.specs.Access.{reach, access_of_word, word_fetched}
 
--- an instruction that asks nothing of the bus goes nowhere in memory
-pub reach-off_bus : (insn : Insn) (spr : ℕ) → needs_bus_of insn spr ≡ false → reach insn ≡ None
-reach-off_bus (Lwa d a i) spr off = absurd cc
-reach-off_bus (Lwz d a i) spr off = absurd cc
-reach-off_bus (Lws d a i) spr off = absurd cc
-reach-off_bus (Lbz d a i) spr off = absurd cc
-reach-off_bus (Lbs d a i) spr off = absurd cc
-reach-off_bus (Lhz d a i) spr off = absurd cc
-reach-off_bus (Lhs d a i) spr off = absurd cc
-reach-off_bus (Swa a b i) spr off = absurd cc
-reach-off_bus (Sw a b i) spr off = absurd cc
-reach-off_bus (Sb a b i) spr off = absurd cc
-reach-off_bus (Sh a b i) spr off = absurd cc
-reach-off_bus _ spr off = refl
-
--- neither does one that may not stand where it does, or not in its mode
+-- an instruction that may not stand where it does, or not in its mode, goes nowhere in memory
 pub reach-misplaced : (core : Core) (insn : Insn) → is_misplaced core insn ≡ true → reach insn ≡ None
 unfolding is_misplaced
 reach-misplaced core (Lwa d a i) bad = absurd (search rules)

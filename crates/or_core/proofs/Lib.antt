@@ -4,3 +4,4 @@ pub mod Begins
 pub mod Pages
 pub mod Progress
 pub mod Traces
+mod Vectors

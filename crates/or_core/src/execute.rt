@@ -13,6 +13,7 @@ use or_words::{CompareCode, ExtendKind, MacKind, ShiftKind};
 impl Core {
     // Executes an instruction, or meets an exception and changes nothing. Those that ask the bus have
     // no place here.
+    #[inline(always)]
     #[tactic(auto, unfolding(or_model::specs::Execute::executed))]
     pub(crate) fn execute(&mut self, insn: Insn) -> Result<(), Cause>
         requires { Fits insn }

@@ -64,7 +64,7 @@ impl Core {
     }
 
     // Whether an instruction may not stand where it does, or not in this mode.
-    #[inline]
+    #[inline(always)]
     #[tactic(auto, unfolding(or_model::specs::Step::is_misplaced))]
     fn is_misplaced(&self, insn: &Insn) -> bool
         ensures { result ≡ is_misplaced self.now insn.now }
@@ -83,7 +83,7 @@ impl Core {
     }
 
     // The register that an l.mtspr writes.
-    #[inline]
+    #[inline(always)]
     pub(crate) fn spr_number(&self, insn: &Insn) -> u32
         requires { Fits insn.now }
         ensures { result ≡ spr_number self.now insn.now }
@@ -106,7 +106,7 @@ impl Core {
     }
 
     // What an instruction comes to that asks nothing of the bus, or a word that is no instruction.
-    #[inline]
+    #[inline(always)]
     fn attempt(&mut self, insn: Option<Insn>) -> Result<(), Cause>
         requires { ForSome insn Fits }
         ensures outcome { MatchResult result (λ _. outcome self.old insn ≡ Ok self.new) (λ e. outcome self.old insn ≡ Err e) }
@@ -126,7 +126,7 @@ impl Core {
     }
 
     // One step by an instruction that asks nothing of the bus, or by a word that is no instruction.
-    #[inline]
+    #[inline(always)]
     #[tactic(auto, unfolding(or_model::specs::Step::step_off_bus))]
     pub(crate) fn step_off_bus(&mut self, insn: Option<Insn>)
         requires fits { ForSome insn Fits }

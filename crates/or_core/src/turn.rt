@@ -1,6 +1,6 @@
 //! Turns of a core.
 
-ghost use Rattle.std.specs.Prelude.{◌≡◌, ◌<◌, ◌+◌, if◌then◌else◌, None, IsTrue, [], ◌++◌, length};
+ghost use Rattle.std.specs.Prelude.{◌≡◌, ◌<◌, ◌≤◌, ◌+◌, if◌then◌else◌, None, IsTrue, [], ◌++◌, length};
 ghost use Rattle.std.specs.Option.{option_or};
 ghost use Rattle.or_model.specs.World.{World};
 ghost use Rattle.or_model.specs.Turn.{turn_begun, turn_ended, turn};
@@ -86,6 +86,7 @@ impl Core {
         ensures bus { KeepsBus bus.old bus.new }
         ensures trace { trace.new.items ≡ turn_trace self.old }
         ensures items { self.new.steps ≡ self.old.steps + length trace.new.items }
+        ensures few { length trace.new.items ≤ 256 }
     {
         let _ = &self.steps;
         let follows = self.begin_traced(trace);
@@ -103,6 +104,7 @@ impl Core {
         ensures settings { SameSettings self.old self.new }
         ensures trace { trace.new.items ≡ private_trace self.old }
         ensures room { IsTrue result → length trace.new.items < 256 }
+        ensures few { length trace.new.items ≤ 256 }
         ensures items { self.new.steps ≡ self.old.steps + length trace.new.items }
     {
         for noted in 0..256u32 {
@@ -118,8 +120,10 @@ impl Core {
 
     // The pc before the step on the bus, if one follows.
     fn trace_bus_step(&self, follows: bool, trace: &mut ArrayVec<u32, 256>)
-        requires { IsTrue follows → length trace.old.items < 256 }
-        ensures { trace.new.items ≡ trace.old.items ++ bus_trace (record { core = self.now; follows = follows }) }
+        requires room { IsTrue follows → length trace.old.items < 256 }
+        requires few { length trace.old.items ≤ 256 }
+        ensures trace { trace.new.items ≡ trace.old.items ++ bus_trace (record { core = self.now; follows = follows }) }
+        ensures few { length trace.new.items ≤ 256 }
     {
         if follows {
             trace.push(self.pc());

@@ -110,6 +110,7 @@ pub enum Insn {
 }
 
 /// The instruction of a word; `None` where no instruction has this word.
+#[inline(always)]
 pub fn decode(w: u32) -> Option<Insn>
     ensures found { IfSome result (λ i. Decodes w i × Fits i) }
     ensures only { (i : Insn) → Decodes w i → result ≡ Some i }
@@ -130,6 +131,7 @@ pub fn encode(insn: &Insn) -> u32
 }
 
 /// Whether the instruction needs the bus. `spr` is the register that an `Mtspr` writes.
+#[inline(always)]
 pub fn needs_bus(insn: &Insn, spr: u32) -> bool
     ensures { result ≡ needs_bus_of insn.now spr }
 {

@@ -7,14 +7,13 @@ use Rattle.or_model.specs.Core.{Core}
 use Rattle.or_model.specs.Turn.{Board, board_turned, replay}
 use Rattle.or_bus.specs.State.{BusState}
 use Rattle.or_replay.specs.Board.{IsBoard, IsTurned, RefusedBy, RunsAt, all_stopped}
-use Rattle.or_replay.specs.Rounds.{AreStoppedFrom, AreStoppedUpTo}
-use Rattle.or_replay.proofs.Leading.{each_stopped}
+use Rattle.or_replay.proofs.Stopped.{each_stopped}
 use Rattle.or_replay.specs.Marks.{mark_of, mark_after}
 use Rattle.or_replay.specs.declared.board.Refused.{Refused}
 use Rattle.or_replay.specs.declared.board.Refused.TheVariants.{NoSuchCore, CoreStopped}
 use Rattle.or_replay.specs.declared.follow.TurnFault.{TurnFault}
 use Rattle.or_replay.specs.declared.follow.TurnFault.TheVariants.{NoCore, Stopped, Running, Writes, Console}
-use Rattle.or_replay.specs.Following.{AgreeWithin, TurnRefused, MarkRefused, IsFollowed, IsLed, IsAdvanced, IsCompared, IsRefusedMark, IsFirstRunning, TellsOf, Differs}
+use Rattle.or_replay.specs.Following.{AgreeWithin, TurnRefused, MarkRefused, IsFollowed, IsLed, IsAdvanced, IsCompared, IsRefusedMark, IsFirstRunning, AreStopped, AreStoppedUpTo, TellsOf, Differs}
 use Rattle.or_replay.proofs.Replaying.{replay_one_more}
 
 -- a list's first n + 1 elements
@@ -208,9 +207,9 @@ mark_compared block made given mark here (Err fault) some more whole at differs 
   differs = differs.1;
 }
 
-pub first_run : (cores : List Core) (result : Option ℕ) → MatchOption result (AreStoppedFrom 0 cores) (λ c. RunsAt cores c) → IfSome result (λ c. AreStoppedUpTo 0 c cores)
+pub first_run : (cores : List Core) (result : Option ℕ) → MatchOption result (AreStopped cores) (λ c. RunsAt cores c) → IfSome result (λ c. AreStoppedUpTo c cores)
     → MatchOption result (all_stopped cores ≡ true) (λ c. IsFirstRunning cores c)
-first_run cores None stopped first = each_stopped cores (λ c core at. stopped c core (omega arith) at)
-first_run cores (Some c) runs first = record { runs = runs; before = λ k core less at. first k core (omega arith) less at }
+first_run cores None stopped first = each_stopped cores stopped
+first_run cores (Some c) runs first = record { runs = runs; before = λ k core less at. first k core less at }
 
 pub ruleset followed = (first_run)

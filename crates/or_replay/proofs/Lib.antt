@@ -4,7 +4,8 @@ pub mod Reset
 pub mod Turning
 pub mod Replaying
 pub mod Bounds
-pub mod Leading
+pub mod Stopped
 pub mod Schedules
 pub mod Followed
 pub mod Followable
+pub mod FirstRefusal

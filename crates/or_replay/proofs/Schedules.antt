@@ -1,21 +1,17 @@
--- The schedule of a run from the start, and its marks, are such as a recording can have.
-use Rattle.std.proofs.Common.{◌≡◌, ℕ, ◌*◌, ◌/◌, ◌<◌, ◌≤◌, zero, suc, List, [], ◌∷◌, ◌++◌, Some, None, length, refl, ap, sym, ◌∙◌, arith, true, false, Bool, cond, ◌&&◌}
-use Rattle.std.specs.List.{All}
+-- A schedule from the start that stops every core, and its marks, are such as a recording can have.
+use Rattle.std.proofs.Common.{◌≡◌, ℕ, ◌*◌, ◌/◌, ◌≤◌, zero, suc, List, [], ◌∷◌, ◌++◌, Some, None, length, refl, ap, sym, ◌∙◌, arith, true, false, Bool, cond, ◌&&◌}
 use Rattle.std.specs.Prelude.{Option, is_none}
 use Rattle.or_model.specs.declared.Stop.{Stop}
 use Rattle.or_words.specs.declared.Config.{Config}
 use Rattle.or_words.specs.Settings.{Fits}
-use Rattle.or_sched.specs.Schedule.{IsSchedule, AreMarks}
+use Rattle.or_sched.specs.Schedule.{AreMarks}
 use Rattle.or_model.specs.Core.{Core, reset_core}
 use Rattle.or_model.specs.World.{new_world}
 use Rattle.or_parts.specs.Uart.{reset_uart}
 use Rattle.or_model.specs.Turn.{Board, replay, reset_cores}
 use Rattle.or_replay.specs.Start.{start}
-use Rattle.or_replay.specs.Board.{steps_left, all_stopped}
+use Rattle.or_replay.specs.Board.{all_stopped}
 use Rattle.or_replay.specs.Marks.{marks}
-use Rattle.or_replay.specs.Rounds.{IsFinished}
-use Rattle.or_replay.specs.declared.rounds.Finished.{Finished}
-use Rattle.or_replay.proofs.Reset.{length-reset_cores, left-reset_cores}
 use Rattle.or_replay.proofs.Replaying.{length-block_marks}
 use Rattle.or_replay.proofs.Bounds.{marks_fit}
 
@@ -55,16 +51,3 @@ some_turn config image input [] last fits reached stopped =
     let runs = some_run_of config config.cores fits.some_core in
     absurd (let b : true ≡ false = sym stopped ∙ ap all_stopped same ∙ runs in let c : ⊥ = cc in c)
 some_turn config image input (turn ∷ turns) last fits reached stopped = omega arith
-
-pub start_schedule : (config : Config) (image input : List ℕ) (finished : Finished) (cores : List Core) → Fits config
-    → IsFinished (start config image input) finished → cores ≡ (start config image input).cores
-    → length finished.schedule.items ≤ steps_left cores → All (λ c. c < length cores) finished.schedule.items
-    → IsSchedule config finished.schedule.items
-unfolding start
-start_schedule config image input finished cores fits run same few are = record {
-  some_turn = some_turn config image input finished.schedule.items run.last fits run.replayed run.stopped;
-  few_turns = let left = left-reset_cores config config.cores in let all : steps_left cores ≡ config.cores * config.budget = ap steps_left same ∙ left in omega (arith, all, few);
-  cores = let many : length cores ≡ config.cores = ap length same ∙ length-reset_cores config config.cores in rw many at are;
-}
-
-pub ruleset schedules = (start_marks, start_schedule)

@@ -3,10 +3,10 @@ use Rattle.std.proofs.Common.{◌≡◌, ℕ, ◌+◌, ◌-◌, ◌<◌, ◌≤�
 use Rattle.std.specs.Prelude.{Option, slice_get, slice_set, slice_index_or, is_none}
 use Rattle.or_model.specs.Core.{Core}
 use Rattle.or_model.specs.declared.Stop.{Stop}
-use Rattle.or_model.specs.Turn.{Board, turn, with_core, running, board_turned, board_turned_by}
+use Rattle.or_model.specs.Turn.{turn}
 use Rattle.or_bus.specs.State.{BusState}
 use Rattle.or_bus.specs.Represents.{Represents}
-use Rattle.or_replay.specs.Board.{steps_left, left_of, IsInOrder, IsCoreTurned, TurnsAt, RunsAt, LeadsOn}
+use Rattle.or_replay.specs.Board.{steps_left, left_of, IsInOrder, IsCoreTurned, TurnsAt}
 
 length-set : (cores : List Core) (place : ℕ) (new : Core) → length (slice_set cores place new) ≡ length cores
 length-set [] place new = refl
@@ -68,26 +68,6 @@ pub steps_lessen : (cores : List Core) (place : ℕ) (before after : Core) (bus 
 steps_lessen cores place before after bus new_bus is at = fewer_left cores place before after at is.left
 
 pub ruleset turning = (has_room, turned_at, order_stays, steps_lessen)
-
-get_some : (cores : List Core) (c : ℕ) → c < length cores → (core : Core) × (slice_get cores c ≡ Some core)
-get_some [] c inside = absurd (omega arith)
-get_some (core ∷ cores) zero inside = (core, refl)
-get_some (core ∷ cores) (suc c) inside = get_some cores c (omega arith)
-
--- a core that runs leads every board on
-pub leads_on : (cores : List Core) (bus : BusState) (place : ℕ) (new_cores : List Core) (new_bus : BusState) → RunsAt cores place
-    → TurnsAt cores bus place new_cores new_bus → LeadsOn cores bus place new_cores new_bus
-unfolding board_turned
-leads_on cores bus place new_cores new_bus runs turns now is =
-    let found = get_some cores place runs.0 in
-    let core : Core = found.0 in
-    let next : Board = with_core now place (turn core now.world) in
-    let at_now : slice_get now.cores place ≡ Some core = ap (λ l. slice_get l place) (sym is.same_cores) ∙ found.1 in
-    let stop : core.stop ≡ None = runs.1 core found.1 in
-    let run : running (Some core) ≡ Some core = ap (λ (s : Option Stop). cond (is_none s) (Some core) None) stop in
-    let turned : board_turned_by now place (running (slice_get now.cores place)) ≡ Some next = ap (λ o. board_turned_by now place (running o)) at_now ∙ ap (board_turned_by now place) run in
-    let made = turns core now.world found.1 is.represents in
-    (next, turned, record { same_cores = made.0 ∙ ap (λ l. slice_set l place (turn core now.world).core) is.same_cores; represents = made.1 })
 
 pub get_is : (cores : List Core) (c : ℕ) (default : Core) → c < length cores → slice_get cores c ≡ Some (slice_index_or cores c default)
 get_is [] c default inside = absurd (omega arith)

@@ -2,7 +2,7 @@
 use Rattle.std.specs.Prelude.{◌≡◌, ◌≤◌, ◌<◌, ℕ, ◌-◌, ◌+◌, List, [], ◌∷◌, Option, Some, None, Result, Ok, Err, length, slice_get, slice_set, is_none, Bool, true, false, ◌&&◌, if◌then◌else◌}
 use Rattle.or_words.specs.declared.Config.{Config}
 use Rattle.or_model.specs.Core.{Core}
-use Rattle.or_model.specs.Turn.{Board, turn, board_turned}
+use Rattle.or_model.specs.Turn.{Board, turn}
 use Rattle.or_model.specs.World.{World}
 use Rattle.std.specs.Option.{option_or}
 use Rattle.or_core.specs.Access.{turn_access}
@@ -63,10 +63,6 @@ Lessens (Err refused) old new = new ≡ old
 -- the core at a place runs
 abbrev pub RunsAt : List Core → ℕ → Type 0
 RunsAt cores c = (c < length cores) × ((core : Core) → slice_get cores c ≡ Some core → core.stop ≡ None)
-
--- one turn of a core leads on from every board that this is
-abbrev pub LeadsOn : List Core → BusState → ℕ → List Core → BusState → Type 0
-LeadsOn cores bus c new_cores new_bus = (now : Board) → IsBoard cores bus now → (next : Board) × (board_turned now c ≡ Some next) × IsBoard new_cores new_bus next
 
 -- the steps that a core may still make
 abbrev pub left_of : Core → ℕ

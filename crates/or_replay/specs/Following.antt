@@ -49,6 +49,14 @@ pub record MarkRefused (block : ℕ) (start : Board) (turns : List ℕ) (given :
   pub agree : AgreeWithin block start turns given (block * blocks)
   pub differs : Differs mark (mark_of now.world) fault
 
+-- the cores up to a number have stopped
+abbrev pub AreStoppedUpTo : ℕ → List Core → Type 0
+AreStoppedUpTo to cores = (c : ℕ) (core : Core) → c < to → slice_get cores c ≡ Some core → ¬ (core.stop ≡ None)
+
+-- all cores have
+abbrev pub AreStopped : List Core → Type 0
+AreStopped cores = (c : ℕ) (core : Core) → slice_get cores c ≡ Some core → ¬ (core.stop ≡ None)
+
 -- the first core that has no stop
 pub record IsFirstRunning (cores : List Core) (c : ℕ) : Type 0 where
   pub runs : RunsAt cores c

@@ -3,6 +3,5 @@ pub mod Marks
 pub mod Board
 pub mod Opening
 pub mod Report
-pub mod Rounds
 pub mod Following
 pub mod Watching

@@ -1,5 +1,5 @@
 -- The marks of a schedule: how far the board's history has come after each block of turns.
-use Rattle.std.specs.Prelude.{ℕ, zero, suc, ◌*◌, ◌/◌, List, [], ◌∷◌, ◌++◌, Option, Some, None, length, take, min}
+use Rattle.std.specs.Prelude.{ℕ, zero, suc, ◌*◌, ◌/◌, ◌%◌, ◌==◌, if◌then◌else◌, List, [], ◌∷◌, ◌++◌, Option, Some, None, length, take, min}
 use Rattle.or_sched.specs.declared.recording.Mark.{Mark}
 use Rattle.or_mem.specs.Memory.{last_count}
 use Rattle.or_model.specs.World.{World}
@@ -21,3 +21,7 @@ block_marks block start turns (suc n) = block_marks block start turns n ++ mark_
 -- the marks behind each whole block of 65536 turns
 unfoldable pub marks : Board → List ℕ → List Mark
 marks start turns = block_marks 65536 start turns (length turns / 65536)
+
+-- the marks once a block may have ended
+abbrev pub with_mark : ℕ → World → List Mark → List Mark
+with_mark made world kept = if made % 65536 == 0 then kept ++ mark_of world ∷ [] else kept

@@ -6,7 +6,7 @@ ghost use Rattle.or_model.specs.World.{World};
 ghost use Rattle.or_model.specs.Turn.{Board as BoardModel, turn, board_turned};
 ghost use Rattle.or_bus.specs.Represents.{Represents};
 ghost use Rattle.or_replay.specs.Marks.{mark_of};
-ghost use Rattle.or_replay.specs.Board.{IsBoard, IsInOrder, IsTurned, steps_left, all_stopped, RefusedBy, Lessens, RunsAt, LeadsOn, AreOfBus, IsCoreTurned, TurnsAt, TellsAccess};
+ghost use Rattle.or_replay.specs.Board.{IsBoard, IsInOrder, IsTurned, steps_left, all_stopped, RefusedBy, Lessens, RunsAt, AreOfBus, IsCoreTurned, TurnsAt, TellsAccess};
 
 use arrayvec::ArrayVec;
 use or_bus::{Bus, Counts};
@@ -89,19 +89,9 @@ impl Board {
         ensures cores { result.0.items ≡ self.cores }
         ensures bus { result.1 ≡ self.bus }
         ensures order { AreOfBus result.0.items result.1 }
+        ensures room { steps_left result.0.items ≤ result.1.spare }
     {
         (self.cores, self.bus)
-    }
-
-    // One turn of a core that runs.
-    pub(crate) fn turn_on(&mut self, core: u8)
-        requires { RunsAt self.old.cores core }
-        ensures turned { LeadsOn self.old.cores self.old.bus core self.new.cores self.new.bus }
-        ensures left { steps_left self.new.cores < steps_left self.old.cores }
-        ensures many { length self.new.cores ≡ length self.old.cores }
-        ensures config { self.new.config ≡ self.old.config }
-    {
-        turn_running(self.cores.as_mut_slice(), usize::from(core), &mut self.bus);
     }
 
     // The lengths of the history of writes and of the console.
@@ -173,15 +163,4 @@ pub(crate) fn turn_at(cores: &mut [Core], place: usize, bus: &mut Bus)
 {
     let _ = cores[place].stop();
     turn_core(&mut cores[place], bus);
-}
-
-// The same, as a turn of every board that this is.
-pub(crate) fn turn_running(cores: &mut [Core], place: usize, bus: &mut Bus)
-    requires order { IsInOrder cores.old bus.old }
-    requires runs { RunsAt cores.old place }
-    ensures turned { LeadsOn cores.old bus.old place cores.new bus.new }
-    ensures order { IsInOrder cores.new bus.new }
-    ensures left { steps_left cores.new < steps_left cores.old }
-{
-    turn_at(cores, place, bus);
 }

@@ -1,12 +1,11 @@
 //! Following a schedule, with the marks that were kept of it.
-ghost use Rattle.std.specs.Prelude.{◌≡◌, ◌≤◌, ◌<◌, ◌/◌, ◌+◌, ◌⊎◌, [], ℕ, List, Some, None, MatchOption, MatchResult, length, true};
+ghost use Rattle.std.specs.Prelude.{◌≡◌, ◌≤◌, ◌<◌, ◌/◌, ◌+◌, ◌⊎◌, [], ℕ, List, Some, None, MatchOption, MatchResult, IfSome, length, true};
 ghost use Rattle.or_model.specs.Turn.{Board as BoardModel};
 ghost use Rattle.or_sched.specs.declared.recording.Mark.{Mark as MarkModel};
-ghost use Rattle.or_replay.specs.Board.{IsBoard, all_stopped};
-ghost use Rattle.or_replay.specs.Following.{IsFollowed, IsFollowable, IsLed, IsAdvanced, IsCompared, IsFirstRunning, TellsOf, Differs};
+ghost use Rattle.or_replay.specs.Board.{IsBoard, RunsAt, all_stopped};
+ghost use Rattle.or_replay.specs.Following.{IsFollowed, IsFollowable, IsLed, IsAdvanced, IsCompared, IsFirstRunning, AreStopped, AreStoppedUpTo, TellsOf, Differs};
 
 use crate::board::{Board, Refused};
-use crate::rounds::running_from;
 use or_core::Core;
 use or_sched::Mark;
 
@@ -132,10 +131,26 @@ fn compare_mark(made: u64, mark: Mark, here: Mark) -> Result<(), TurnFault>
     Ok(())
 }
 
+// A core that runs, before which none does.
+fn find_running(cores: &[Core]) -> Option<u8>
+    requires { length cores.now ≤ 8 }
+    ensures found { MatchOption result (AreStopped cores.now) (λ c. RunsAt cores.now c) }
+    ensures first { IfSome result (λ c. AreStoppedUpTo c cores.now) }
+{
+    let mut c = 0u8;
+    while usize::from(c) < cores.len() {
+        if cores[usize::from(c)].stop().is_none() {
+            return Some(c);
+        }
+        c += 1;
+    }
+    None
+}
+
 // The first core that runs.
 fn first_running(cores: &[Core]) -> Option<u8>
     requires { length cores.now ≤ 8 }
     ensures { MatchOption result (all_stopped cores.now ≡ true) (λ c. IsFirstRunning cores.now c) }
 {
-    running_from(cores, 0)
+    find_running(cores)
 }

@@ -3,14 +3,16 @@
 
 mod board;
 mod follow;
+pub mod laws;
 mod opening;
 mod readers;
 mod reporting;
-mod rounds;
 mod watching;
 
 pub use board::{Board, Refused};
 pub use follow::TurnFault;
 pub use opening::OpenFault;
 pub use reporting::{core_text, report};
-pub use rounds::{Finished, run_rounds};
+
+#[cfg(test)]
+mod tests;

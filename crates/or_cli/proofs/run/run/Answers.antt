@@ -4,16 +4,19 @@ use Rattle.std.specs.declared.alloc.Global.{Global}
 use Rattle.or_command_line.specs.Names.{run_names}
 use Rattle.or_command.specs.Loads.{bytes_of}
 use Rattle.or_command.specs.Ends.{end_of}
-use Rattle.or_cli.specs.Finish.{FinishEnds}
-use Rattle.or_cli.proofs.Runs.{run_goes_on}
+use Rattle.or_command.specs.Answered.{FinishEnds}
+use Rattle.or_command.proofs.AnsweredLemmas.{goes_on}
+use Rattle.or_cli.specs.Run.{run_loads, run_check, RunWrites}
+use Rattle.or_cli.proofs.Runs.{apart_of}
 use Rattle.or_cli.proofs.run.run.Goals as goal
 
 pub returns-in-Ok-clause-outcome : goal.returns-in-Ok-clause-outcome
 returns-in-Ok-clause-outcome g c =
     let names = run_names c.args.words.now in
     let config = c.args.words.now.config in
-    run_goes_on names config (bytes_of c.new-files.result.items) (bytes_of c.load_image.new.into.items) (end_of c.finish.result)
+    goes_on (run_loads names) (run_check names config) (RunWrites names config) (apart_of names config c.requires.names)
+    (bytes_of c.new-files.result.items) (bytes_of c.load_image.new.into.items) (end_of c.finish.result)
     (g.H.Host.state c.args.host.now) (g.H.Host.state c.load_image.new.host) (g.H.Host.state c.finish.new.host)
-    c.requires.names (ap bytes_of c.new-files.ensures.items) c.in-Ok.ensures.files
-    (subst (λ (files : List (Vec ℕ Global)). FinishEnds names config (bytes_of files) (end_of c.finish.result) (g.H.Host.state c.load_image.new.host) (g.H.Host.state c.finish.new.host))
-    c.as_slice.ensures.value c.finish.ensures.outcome)
+    (ap bytes_of c.new-files.ensures.items) c.in-Ok.ensures.files
+    (subst (λ (files : List (Vec ℕ Global)). FinishEnds (run_check names config) (RunWrites names config) (bytes_of files) (end_of c.finish.result)
+    (g.H.Host.state c.load_image.new.host) (g.H.Host.state c.finish.new.host)) c.as_slice.ensures.value c.finish.ensures.outcome)

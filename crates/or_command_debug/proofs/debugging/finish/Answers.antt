@@ -1,6 +1,6 @@
 use Rattle.std.proofs.Common.{subst, ℕ, List, [], Err}
 use Rattle.or_command.specs.Ends.{end_of}
-use Rattle.or_command.specs.Finishing.{WritesEnd}
+use Rattle.or_command.specs.Finishing.{WriteEnds}
 use Rattle.or_command.specs.Loads.{bytes_of}
 use Rattle.or_command_line.specs.Names.{recorded_names}
 use Rattle.or_command_replay.specs.Replay.{bytes_in}
@@ -19,7 +19,7 @@ returns-in-Ok-text-clause-outcome g c =
     let debugged = c.in-Ok-text.ensures bytes told.image told.input checked in
     written_ends names c.args.script.now files c.in-Ok-text.text.items (end_of c.write.result) (g.H.Host.state c.args.host.now) (g.H.Host.state c.write.new.host)
     (subst (λ (l : List ℕ). IsDebugged bytes l c.in-Ok-text.text.items) c.script_in-lines.ensures debugged)
-    (subst (λ (l : List ℕ). WritesEnd [] l (end_of c.write.result) (g.H.Host.state c.args.host.now) (g.H.Host.state c.write.new.host)) c.deref.ensures.value c.write.ensures.outcome)
+    (subst (λ (l : List ℕ). WriteEnds [] l (end_of c.write.result) (g.H.Host.state c.args.host.now) (g.H.Host.state c.write.new.host)) c.deref.ensures.value c.write.ensures.outcome)
 
 pub returns-in-Ok-clause-outcome : goal.returns-in-Ok-clause-outcome
 returns-in-Ok-clause-outcome g c =

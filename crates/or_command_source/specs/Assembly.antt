@@ -1,0 +1,43 @@
+-- What the command `asm` loads, checks and writes.
+use Rattle.std.specs.Prelude.{◌≡◌, ℕ, List, [], ◌∷◌, Option, Some, None, Result, Ok, Err}
+use Rattle.or_asm_read.specs.declared.fault.Fault.{Fault}
+use Rattle.or_asm_read.specs.Faults.{number_of_fault}
+use Rattle.or_asm.specs.Source.{source_of}
+use Rattle.or_elf.specs.Text.{Piece, elf_text}
+use Rattle.or_command.specs.Loads.{Load}
+use Rattle.or_command.specs.Writes.{File}
+use Rattle.or_command.specs.Lines.{source_line}
+use Rattle.or_command.specs.Ends.{FailedCheck}
+
+-- the limit of a source, in bytes
+abbrev pub source_limit : ℕ
+source_limit = 4194304
+
+abbrev pub asm_loads : List ℕ → List Load
+asm_loads source = record { name = source; limit = source_limit } ∷ []
+
+-- the one file that was loaded
+abbrev pub only_file : List (List ℕ) → List ℕ
+only_file [] = []
+only_file (file ∷ others) = file
+
+-- the check of a source
+abbrev pub source_check : List ℕ → Result (List Piece) (Fault × ℕ) → Option FailedCheck
+source_check name (Ok program) = None
+source_check name (Err refusal) = Some (record { status = 9; line = source_line name (number_of_fault refusal.0) refusal.1 })
+
+abbrev pub asm_check : List ℕ → List (List ℕ) → Option FailedCheck
+asm_check source files = source_check source (source_of (only_file files))
+
+-- the file of the program that a source says
+pub record IsFileOf (source file : List ℕ) : Type 0 where
+  pub program : List Piece
+  pub said : source_of source ≡ Ok program
+  pub text : file ≡ elf_text program
+
+-- the image is written, and nothing goes to standard output
+pub record AsmWrites (image : List ℕ) (files : List (List ℕ)) (outs : List File) (console : List ℕ) : Type 0 where
+  pub file : List ℕ
+  pub is_file : IsFileOf (only_file files) file
+  pub outputs : outs ≡ record { name = image; text = file } ∷ []
+  pub silent : console ≡ []

@@ -1,0 +1,4 @@
+pub mod Assembly
+pub mod Listing
+pub mod Listed
+pub mod Generation

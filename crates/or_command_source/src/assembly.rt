@@ -1,0 +1,109 @@
+//! The command `asm`.
+ghost use Rattle.std.specs.Prelude.{◌≡◌, ◌≢◌, ◌≤◌, ℕ, List, Result, [], ◌∷◌, MatchResult, length};
+ghost use Rattle.or_asm_read.specs.declared.fault.Fault.{Fault};
+ghost use Rattle.or_asm.specs.Source.{source_of, Refuses};
+ghost use Rattle.or_elf.specs.Text.{Piece};
+ghost use Rattle.or_host.specs.Calls.{IsName};
+ghost use Rattle.or_command_line.specs.Names.{IsAssembly};
+ghost use Rattle.or_command.specs.Leaves.{Silent};
+ghost use Rattle.or_command.specs.Loads.{bytes_of};
+ghost use Rattle.or_command.specs.Ends.{end_of};
+ghost use Rattle.or_command.specs.Outcomes.{CommandOutcome, LeavesAll};
+ghost use Rattle.or_command.specs.Answered.{Answers, IsDecided, FinishEnds, Stops};
+ghost use Rattle.or_command_source.specs.Assembly.{asm_loads, asm_check, source_check, AsmWrites, only_file, IsFileOf};
+
+use crate::files::{only_file, write_file};
+use or_asm::{AsmFault, assemble};
+use or_command::{Input, LoadStop, Outcome, Refusal, conclude, load_files};
+use or_host::Host;
+use or_isa::Program;
+use std::alloc::Global;
+
+const SOURCE_LIMIT: usize = 4_194_304;
+
+// The file of a source's program.
+fn program_file(alloc: Global, source: &[u8]) -> Result<Vec<u8>, AsmFault>
+    requires { length source.now ≤ 4194304 }
+    ensures { MatchResult result (λ file. IsFileOf source.now file.items) (λ fault. Refuses fault (source_of source.now)) }
+{
+    let mut program = Program {
+        pieces: Vec::new(alloc),
+    };
+    assemble(alloc, source, &mut program)?;
+    let mut file = Vec::new(alloc);
+    match or_elf::write(&program, &mut file) {
+        Ok(()) => Ok(file),
+        Err(_) => Err(AsmFault::NoMemory),
+    }
+}
+
+// How a source that has no program ends the command.
+fn refused(name: &str, fault: AsmFault) -> Outcome<'_>
+    ensures { (source : Result (List Piece) (Fault × ℕ)) → Refuses fault source → Stops (source_check name.now source) (end_of result) }
+{
+    match fault.line() {
+        None => Outcome::NoMemory,
+        Some(line) => Outcome::Refused(Refusal::Source {
+            name,
+            fault: fault.number(),
+            line: u64::from(line),
+        }),
+    }
+}
+
+// How the command ends on a source that was loaded.
+fn finish<'a, H: Host>(
+    alloc: Global,
+    source: &'a str,
+    image: &'a str,
+    files: &[Vec<u8>],
+    host: &mut H,
+) -> Outcome<'a>
+    requires names { IsAssembly source.now image.now }
+    requires limit { length (only_file (bytes_of files.now)) ≤ 4194304 }
+    ensures outcome { FinishEnds (asm_check source.now) (AsmWrites image.now) (bytes_of files.now) (end_of result) (H.state host.old) (H.state host.new) }
+    ensures silent { Silent (H.state host.old) (H.state host.new) }
+{
+    match program_file(alloc, only_file(files)) {
+        Ok(file) => write_file(image, &file, host),
+        Err(fault) => refused(source, fault),
+    }
+}
+
+// Loads a source, and writes the file of its program.
+fn assembled<'a, H: Host>(
+    alloc: Global,
+    source: &'a str,
+    image: &'a str,
+    host: &mut H,
+) -> Outcome<'a>
+    requires names { IsAssembly source.now image.now }
+    ensures outcome { CommandOutcome (asm_loads source.now) (asm_check source.now) (AsmWrites image.now) LeavesAll (end_of result) (H.state host.old) (H.state host.new) }
+    ensures silent { Silent (H.state host.old) (H.state host.new) }
+{
+    let mut files = Vec::new(alloc);
+    let input = Input {
+        name: source,
+        limit: SOURCE_LIMIT,
+    };
+    match load_files(alloc, host, &[input], &mut files) {
+        Ok(()) => finish(alloc, source, image, files.as_slice(), host),
+        Err(LoadStop::Unread(name)) => Outcome::Unread(name),
+        Err(LoadStop::TooLong(name, limit)) => Outcome::TooLong(name, limit),
+        Err(LoadStop::NoMemory) => Outcome::NoMemory,
+    }
+}
+
+/// Assembles a source of at most 4 MiB, writes the ELF file of its program to the image, and says how that ended.
+///
+/// Status: 0 all was done, 5 the source was not read, 6 the image was not written, 7 no memory, 8 the source is too long,
+/// 9 the source has a fault. After 5, 7, 8 and 9 nothing is written or created.
+pub fn asm<H: Host>(alloc: Global, source: &str, image: &str, host: &mut H) -> u8
+    requires names { IsAssembly source.now image.now }
+    ensures ends { Answers (asm_loads source.now) (asm_check source.now) (AsmWrites image.now) LeavesAll result (H.state host.old) (H.state host.new) }
+    ensures decided { IsDecided (asm_loads source.now) (asm_check source.now) (AsmWrites image.now) LeavesAll result (H.state host.old) (H.state host.new) }
+    ensures command { result ≢ 2 }
+{
+    let outcome = assembled(alloc, source, image, host);
+    conclude(host, outcome)
+}

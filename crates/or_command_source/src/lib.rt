@@ -1,0 +1,15 @@
+//! The commands on sources: `asm`, `dis` and `gen`.
+#![tactic(auto)]
+
+mod assembly;
+mod disassembly;
+mod files;
+mod generation;
+mod listing;
+
+pub use assembly::asm;
+pub use disassembly::dis;
+pub use generation::generate;
+
+#[cfg(test)]
+mod tests;

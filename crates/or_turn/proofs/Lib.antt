@@ -1,0 +1,14 @@
+pub mod Replays
+pub mod Steps
+pub mod Lengths
+pub mod Blocks
+pub mod Counts
+pub mod Seats
+pub mod Opening
+pub mod Waiting
+pub mod Turning
+pub mod Turn
+pub mod Joining
+pub mod Removals
+pub mod Units
+pub mod Moments

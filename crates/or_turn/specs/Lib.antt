@@ -1,0 +1,9 @@
+pub mod Schedules
+pub mod Laws
+pub mod Rule
+pub mod Told
+pub mod Shown
+pub mod Units
+pub mod Ordered
+pub mod Ends
+pub mod Parts

@@ -1,0 +1,16 @@
+//! The turn at the bus: threads take turns at one bus, and there is one schedule that has each caller's turns.
+#![tactic(auto)]
+
+mod laws;
+mod plays;
+mod rule;
+mod shared;
+mod unit;
+mod view;
+
+pub use laws::{equal_entries_leave_the_core, turns_leave_other_cores};
+pub use plays::TurnRule;
+pub use rule::each_part_holds;
+pub use shared::{Closed, Shared};
+pub use unit::Unit;
+pub use view::{JoinedHalves, OpenedWith, Settings, Stage, Transfer, View};

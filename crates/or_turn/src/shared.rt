@@ -1,0 +1,50 @@
+//! The bus that units share.
+ghost use Rattle.std.specs.Prelude.{◌≡◌};
+
+use crate::plays::TurnRule;
+use crate::view::{OpenedWith, Transfer, View};
+use arrayvec::ArrayVec;
+use atomic_table::Table;
+use or_bus::Bus;
+use or_core::Core;
+use or_sched::Mark;
+use std::alloc::Global;
+
+mod closing;
+mod joining;
+mod opening;
+mod sleepers;
+mod steps;
+mod turning;
+
+use sleepers::Sleepers;
+
+/// What units share: the bus with the schedule so far, whose turn it is, and where the others sleep.
+/// Threads may share it.
+#[derive(Drop)]
+pub struct Shared {
+    table: Table<Option<Transfer>, View, OpenedWith, TurnRule, Global>,
+    sleepers: Sleepers,
+    ghost sized: { (table.shared.table_id.words ≡ 3) × (table.shared.table_id.slots ≡ 1) },
+}
+
+impl Shared {
+    ghost use Rattle.or_turn.specs.Units.{id_of, settings_in};
+
+    /// Sets how often who waits for the bus looks for its turn before it sleeps; at first it is 0. Looking pays only where
+    /// each thread has a processor of its own.
+    pub fn set_looks(&mut self, looks: u32)
+        ensures { (id_of self.new ≡ id_of self.old) × (settings_in self.new ≡ settings_in self.old) }
+    {
+        self.sleepers.looks = looks;
+    }
+}
+
+/// What is left when all units are joined: the cores in order of number, the bus, the schedule and its marks.
+#[derive(Drop)]
+pub struct Closed {
+    pub cores: ArrayVec<Core, 8>,
+    pub bus: Bus,
+    pub schedule: Vec<u8>,
+    pub marks: Vec<Mark>,
+}

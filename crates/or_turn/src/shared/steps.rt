@@ -1,0 +1,126 @@
+//! Single steps on the table.
+ghost use Rattle.std.specs.Prelude.{◌≡◌, ℕ, ◌+◌, ◌<◌, ◌≤◌, [], ◌∷◌, ◌++◌, None, Some, MatchBool};
+ghost use Rattle.or_turn.specs.declared.view.Stage.TheVariants.{Idle, Waits, Holds};
+ghost use Rattle.or_turn.specs.declared.view.Transfer.{Transfer as TransferModel};
+ghost use Rattle.or_turn.specs.Schedules.{board_of, core_at};
+ghost use Rattle.or_turn.specs.Rule.{SlotHolds, longer};
+ghost use Rattle.or_turn.specs.Told.{TakesBus, waiting_view, done_view, enrolled_view, closed_view, next_view, both_view, halves, JoinConfirmed};
+
+use super::sleepers::Sleepers;
+use crate::plays::{Confirm, Divide, Draw, Enrol, Finish, Look, TurnRule, Unite};
+use crate::unit::Place;
+use crate::view::{OpenedWith, Transfer, View};
+use atomic_table::Shared as Steps;
+use std::hint;
+use std::sync::Wait;
+
+// The words: the next ticket, the ticket that is served, and how many cores are enrolled.
+const NEXT: usize = 0;
+
+const SERVING: usize = 1;
+
+const ENROLLED: usize = 2;
+
+pub(crate) type Top = Steps<Option<Transfer>, View, OpenedWith, TurnRule>;
+
+// Draws a ticket.
+pub(crate) fn draw(top: &Top, seat: &mut Place) -> u64
+    requires table { (seat.old.table_id ≡ top.now.table_id) × (top.now.table_id.words ≡ 3) × (top.now.table_id.slots ≡ 1) }
+    requires ready { (c : ℕ) × (seat.old.me.0.stage ≡ Idle) × (seat.old.me.0.cores ≡ c ∷ []) × ((core_at (board_of seat.old.me.0.settings seat.old.me.0.seen).cores c).stop ≡ None) }
+    ensures same { (seat.new.table_id ≡ seat.old.table_id) × (seat.new.id ≡ seat.old.id) × (seat.new.me.1 ≡ seat.old.me.1) }
+    ensures view { seat.new.me.0 ≡ waiting_view seat.old.me.0 result }
+{
+    top.fetch_add::<Draw>(seat, NEXT, 1)
+}
+
+// Looks whether the ticket is served, and takes the slot where it is.
+fn look(top: &Top, seat: &mut Place, ticket: u64) -> bool
+    requires table { (seat.old.table_id ≡ top.now.table_id) × (top.now.table_id.words ≡ 3) × (top.now.table_id.slots ≡ 1) }
+    requires waits { (seat.old.me.0.stage ≡ Waits ticket) × (seat.old.me.1 ≡ []) }
+    ensures same { (seat.new.table_id ≡ seat.old.table_id) × (seat.new.id ≡ seat.old.id) }
+    ensures took { MatchBool result (TakesBus seat.old.me.0 seat.new.me) (seat.new.me ≡ seat.old.me) }
+{
+    top.load::<Look>(seat, SERVING) == ticket
+}
+
+// Looks up to so many times for the ticket to be served.
+fn watch(top: &Top, ticket: u64, looks: u32)
+    requires { top.now.table_id.words ≡ 3 }
+{
+    for _ in 0..looks {
+        if top.peek(SERVING) == ticket {
+            return;
+        }
+        hint::spin_loop();
+    }
+}
+
+// Waits until the ticket is served, and takes the slot.
+pub(crate) fn wait_for_bus<R: Wait>(
+    rt: &R,
+    top: &Top,
+    sleepers: &Sleepers,
+    seat: &mut Place,
+    ticket: u64,
+)
+    requires table { (seat.old.table_id ≡ top.now.table_id) × (top.now.table_id.words ≡ 3) × (top.now.table_id.slots ≡ 1) }
+    requires waits { (seat.old.me.0.stage ≡ Waits ticket) × (seat.old.me.1 ≡ []) }
+    ensures same { (seat.new.table_id ≡ seat.old.table_id) × (seat.new.id ≡ seat.old.id) }
+    ensures took { TakesBus seat.old.me.0 seat.new.me }
+{
+    for _ in rt.forever() {
+        watch(top, ticket, sleepers.looks);
+        if look(top, seat, ticket) {
+            return;
+        }
+        sleepers.announce(ticket);
+        if look(top, seat, ticket) {
+            sleepers.leave(ticket);
+            return;
+        }
+        sleepers.sleep(rt, ticket);
+    }
+    unreachable!()
+}
+
+// Ends a turn: the next ticket is served, and the slot goes home.
+pub(crate) fn finish(top: &Top, sleepers: &Sleepers, seat: &mut Place)
+    requires table { (seat.old.table_id ≡ top.now.table_id) × (top.now.table_id.words ≡ 3) × (top.now.table_id.slots ≡ 1) }
+    requires holds { (c : ℕ) × (transfer : TransferModel) × (seat.old.me.0.stage ≡ Holds) × (seat.old.me.0.cores ≡ c ∷ []) × (seat.old.me.1 ≡ (0, Some transfer) ∷ []) × SlotHolds seat.old.me.0.settings (seat.old.me.0.seen ++ c ∷ []) transfer }
+    ensures same { (seat.new.table_id ≡ seat.old.table_id) × (seat.new.id ≡ seat.old.id) }
+    ensures view { seat.new.me ≡ (done_view seat.old.me.0, []) }
+{
+    let served = top.fetch_add::<Finish>(seat, SERVING, 1);
+    sleepers.wake(served.wrapping_add(1));
+}
+
+// Gives the next core to the seat with the opening mark.
+pub(crate) fn enrol(top: &Top, seat: &mut Place)
+    requires table { (seat.old.table_id ≡ top.now.table_id) × (top.now.table_id.words ≡ 3) × (top.now.table_id.slots ≡ 1) }
+    requires ready { (k : ℕ) × (seat.old.me.0.stage ≡ Idle) × (seat.old.me.0.cores ≡ []) × (seat.old.me.0.opening ≡ Some k) × (k < seat.old.me.0.settings.config.cores) }
+    ensures same { (seat.new.table_id ≡ seat.old.table_id) × (seat.new.id ≡ seat.old.id) × (seat.new.me.1 ≡ seat.old.me.1) }
+    ensures view { (k : ℕ) → seat.old.me.0.opening ≡ Some k → seat.new.me.0 ≡ enrolled_view seat.old.me.0 k }
+{
+    top.fetch_add::<Enrol>(seat, ENROLLED, 1);
+}
+
+// Makes the next seat, which has the opening mark from now on.
+pub(crate) fn split(top: &Top, seat: &mut Place) -> Place
+    requires table { (seat.old.table_id ≡ top.now.table_id) × (top.now.table_id.words ≡ 3) × (top.now.table_id.slots ≡ 1) }
+    requires ready { (k : ℕ) × (seat.old.me.0.stage ≡ Idle) × (seat.old.me.0.opening ≡ Some k) }
+    ensures same { (seat.new.table_id ≡ seat.old.table_id) × (seat.new.id ≡ seat.old.id) × (seat.new.me ≡ (closed_view seat.old.me.0, seat.old.me.1)) }
+    ensures new { (result.table_id ≡ seat.old.table_id) × (result.me ≡ (next_view seat.old.me.0, [])) }
+{
+    top.split_seat::<Divide>(seat)
+}
+
+// Takes in the other seat's view, and looks what became of the two.
+pub(crate) fn join(top: &Top, seat: &mut Place, other: Place)
+    requires table { (seat.old.table_id ≡ top.now.table_id) × (top.now.table_id.words ≡ 3) × (top.now.table_id.slots ≡ 1) × (other.table_id ≡ top.now.table_id) }
+    requires idle { (seat.old.me.0.stage ≡ Idle) × (other.me.0.stage ≡ Idle) × (other.me.1 ≡ []) }
+    ensures same { (seat.new.table_id ≡ seat.old.table_id) × (seat.new.id ≡ seat.old.id) × (seat.new.me ≡ (both_view seat.old.me.0 other.me.0, seat.old.me.1)) }
+    ensures joint { JoinConfirmed seat.old.me.0.settings (seat.old.me.0.cores ++ other.me.0.cores) (longer seat.old.me.0.seen other.me.0.seen) (halves seat.old.me.0 other.me.0) }
+{
+    top.join_seat::<Unite>(seat, other);
+    top.load::<Confirm>(seat, NEXT);
+}

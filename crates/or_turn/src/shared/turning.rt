@@ -1,0 +1,76 @@
+//! A turn at the bus.
+ghost use Rattle.std.specs.Prelude.{◌≡◌, ℕ, Bool, ◌+◌, ◌%◌, ◌<◌, ◌≤◌, [], ◌∷◌, ◌++◌, Some, None, IsTrue, vec_capacity, vec_len};
+ghost use Rattle.or_model.specs.World.{World};
+ghost use Rattle.or_model.specs.Turn.{turn_ended};
+ghost use Rattle.or_bus.specs.Represents.{Represents};
+ghost use Rattle.or_core.specs.Follows.{IsState, KeepsBus};
+ghost use Rattle.or_replay.specs.Marks.{with_mark};
+ghost use Rattle.or_turn.specs.Shown.{core_of, Turned};
+ghost use Rattle.or_turn.specs.Units.{view, begun, cores, IsOf};
+
+use super::Shared;
+use super::steps::{draw, finish, wait_for_bus};
+use crate::unit::Unit;
+use crate::view::Transfer;
+use or_core::Core;
+use or_sched::Mark;
+use std::sync::Wait;
+
+/// After so many turns the schedule has a mark.
+const BLOCK: usize = 65536;
+
+// Adds the mark of a block that has ended.
+fn mark_block(transfer: &mut Transfer)
+    requires room { vec_len transfer.old.schedule % 65536 ≡ 0 → vec_len transfer.old.marks < vec_capacity transfer.old.marks }
+    ensures marks { (world : World) → Represents transfer.old.bus world → transfer.new.marks.items ≡ with_mark (vec_len transfer.old.schedule) world transfer.old.marks.items }
+    ensures same { (transfer.new.bus ≡ transfer.old.bus) × (transfer.new.schedule ≡ transfer.old.schedule) }
+    ensures kept { vec_capacity transfer.new.marks ≡ vec_capacity transfer.old.marks }
+{
+    if transfer.schedule.len() % BLOCK == 0 {
+        transfer.marks.push_reserved(Mark {
+            writes: transfer.bus.writes(),
+            console: transfer.bus.console().len() as u64,
+        });
+    }
+}
+
+// Makes the rest of a turn on the bus, and writes it into the schedule.
+fn end_turn(core: &mut Core, transfer: &mut Transfer, follows: bool)
+    requires running { IsTrue follows → core.old.stop ≡ None }
+    requires known { (core.old.number < transfer.old.bus.cores) × (core.old.number < 256) }
+    requires room { (0 < transfer.old.bus.spare) × (vec_len transfer.old.schedule < vec_capacity transfer.old.schedule) × ((vec_len transfer.old.schedule + 1) % 65536 ≡ 0 → vec_len transfer.old.marks < vec_capacity transfer.old.marks) }
+    ensures state { (world : World) → Represents transfer.old.bus world → IsState (turn_ended core.old world follows) core.new transfer.new.bus }
+    ensures bus { KeepsBus transfer.old.bus transfer.new.bus }
+    ensures schedule { transfer.new.schedule.items ≡ transfer.old.schedule.items ++ core.old.number ∷ [] }
+    ensures marks { (world : World) → Represents transfer.new.bus world → transfer.new.marks.items ≡ with_mark (vec_len transfer.old.schedule + 1) world transfer.old.marks.items }
+    ensures kept { (vec_capacity transfer.new.schedule ≡ vec_capacity transfer.old.schedule) × (vec_capacity transfer.new.marks ≡ vec_capacity transfer.old.marks) }
+{
+    transfer.schedule.push_reserved(core.number() as u8);
+    core.end_turn(&mut transfer.bus, follows);
+    mark_block(transfer);
+}
+
+impl Shared {
+    /// Waits for the bus, and makes the rest of the turn that the unit has begun. The unit is of this Shared; it then has
+    /// not begun. It takes no memory.
+    pub fn turn<R: Wait>(&self, rt: &R, unit: &mut Unit)
+        requires of { IsOf self.now unit.old }
+        requires begun { (follows : Bool) × (begun unit.old ≡ Some follows) }
+        ensures of { IsOf self.now unit.new }
+        ensures turned { (c : ℕ) → (view unit.old).cores ≡ c ∷ [] → Turned (view unit.old) (view unit.new) c }
+        ensures rests { begun unit.new ≡ None }
+        ensures core { (c : ℕ) → (view unit.old).cores ≡ c ∷ [] → cores unit.new ≡ core_of (view unit.new) c ∷ [] }
+    {
+        let Some(follows) = unit.begun else {
+            unreachable!()
+        };
+        let top = &self.table.shared;
+        let ticket = draw(top, &mut unit.seat);
+        wait_for_bus(rt, top, &self.sleepers, &mut unit.seat, ticket);
+        let mut transfer = top.exchange(&mut unit.seat, 0, None).unwrap();
+        end_turn(&mut unit.cores.as_mut_slice()[0], &mut transfer, follows);
+        top.exchange(&mut unit.seat, 0, Some(transfer));
+        finish(top, &self.sleepers, &mut unit.seat);
+        unit.begun = None;
+    }
+}
