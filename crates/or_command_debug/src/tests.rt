@@ -34,33 +34,36 @@ const NO_INPUT_DIGEST: &str =
 const LETTER_DIGEST: &str =
     "input 559aead08264d5795d3909718cdd05abd49572e84fe55590eef31a88a08fdffd\n";
 
-// Whether a session on a host whose call of this number fails has this status, writes this and says this.
-fn ends(
-    alloc: Global,
-    input: &str,
-    runs: &str,
-    script: &[u8],
-    call: u64,
-    wanted: (u8, &[u8], &[u8]),
-) -> Result<bool, Fail> {
-    let digest = if input == "-" {
-        NO_INPUT_DIGEST
-    } else {
-        LETTER_DIGEST
+// Debugs the run without input.
+fn debug_silently(alloc: Global, host: &mut MemHost) -> u8 {
+    let files = Recorded {
+        image: "h.elf",
+        input: "-",
+        schedule: "s",
     };
+    let outcome = debug(alloc, &files, "q", host);
+    conclude(host, outcome)
+}
+
+// Debugs the run with an input.
+fn debug_with_input(alloc: Global, host: &mut MemHost) -> u8 {
+    let files = Recorded {
+        image: "h.elf",
+        input: "i",
+        schedule: "s",
+    };
+    let outcome = debug(alloc, &files, "q", host);
+    conclude(host, outcome)
+}
+
+// A host whose call of this number fails, with an image, an input, a recording and a script.
+fn host(alloc: Global, schedule: &[u8], script: &[u8], call: u64) -> Result<MemHost, Fail> {
     let mut host = MemHost::new(alloc, vec![in alloc; call]?);
     host.put("h.elf", &IMAGE)?;
     host.put("i", b"A")?;
-    host.put("s", &recording(alloc, digest, runs)?)?;
+    host.put("s", schedule)?;
     host.put("q", script)?;
-    let files = Recorded {
-        image: "h.elf",
-        input,
-        schedule: "s",
-    };
-    let outcome = debug(alloc, &files, "q", &mut host);
-    let status = conclude(&mut host, outcome);
-    Ok(status == wanted.0 && host.written() == wanted.1 && host.said() == wanted.2)
+    Ok(host)
 }
 
 #[test]
@@ -114,8 +117,15 @@ fn sessions(rt: HostRuntime) -> Result<(), Fail> {
         ),
     ];
     for (runs, lines, call, status, written, said) in cases {
-        assert!(rt; ends(alloc, "-", runs, lines, call, (status, written, said))?);
+        let schedule = recording(alloc, NO_INPUT_DIGEST, runs)?;
+        let mut host = host(alloc, &schedule, lines, call)?;
+        assert_eq!(rt; debug_silently(alloc, &mut host), status);
+        assert!(rt; host.written() == written);
+        assert!(rt; host.said() == said);
     }
-    assert!(rt; ends(alloc, "i", "a4\n", script, 0, (0, text, b""))?);
+    let schedule = recording(alloc, LETTER_DIGEST, "a4\n")?;
+    let mut host = host(alloc, &schedule, script, 0)?;
+    assert_eq!(rt; debug_with_input(alloc, &mut host), 0);
+    assert!(rt; host.written() == text);
     Ok(())
 }

@@ -2,6 +2,7 @@
 #![tactic(auto)]
 
 mod checked;
+pub mod laws;
 mod refused;
 mod replaying;
 

@@ -1,5 +1,5 @@
 -- A schedule that is followed one turn further.
-use Rattle.std.proofs.Common.{◌≡◌, ◌∙◌, refl, sym, ap, subst, ℕ, zero, suc, ◌+◌, ◌-◌, ◌<◌, ◌≤◌, List, [], ◌∷◌, ◌++◌, length, take, drop, map, get_or, Some, None, Result, Ok, Err, add-one, length-append, arith, append_assoc}
+use Rattle.std.proofs.Common.{◌≡◌, ◌∙◌, refl, sym, ap, subst, ℕ, ◌+◌, ◌-◌, ◌<◌, List, [], ◌∷◌, ◌++◌, length, take, drop, get_or, Some, None, Result, Ok, Err, add-one, length-append, arith}
 use Rattle.std.specs.Prelude.{Option, slice_get, slice_index}
 use Rattle.std.proofs.Math.Seq.{take-suc}
 use Rattle.std.proofs.lemmas.List.{take-append-drop, drop-append-le, drop-drop, length-drop}
@@ -12,7 +12,7 @@ use Rattle.or_replay.specs.declared.board.Refused.{Refused}
 use Rattle.or_replay.proofs.Replaying.{replay_behind}
 use Rattle.or_debug.specs.declared.turns.MadeTurn.{MadeTurn}
 use Rattle.or_debug.specs.Turns.{after, pc_of, pc_in, turn_made, turns_made, last_of}
-use Rattle.or_debug.specs.Standing.{CanFollow, IsAfter, Reaches, IsMade}
+use Rattle.or_debug.specs.Standing.{CanFollow, IsAfter}
 
 and_then_some : (first : Option Board) (next : Board → Option Board) (last : Board) → and_then first next ≡ Some last → (middle : Board) × (first ≡ Some middle)
 and_then_some None next last is = absurd (let b : ⊥ = cc in b)

@@ -3,7 +3,7 @@ use Rattle.std.proofs.Common.{◌≡◌, ◌∙◌, refl, sym, ap, ℕ, zero, su
 use Rattle.std.proofs.Math.ListN.{set}
 use Rattle.std.proofs.lemmas.List.Folds.{flat_map-map}
 use Rattle.std.specs.List.{flat_map}
-use Rattle.std.specs.Prelude.{Some, min}
+use Rattle.std.specs.Prelude.{min}
 use Rattle.or_model.specs.Core.{Core}
 use Rattle.or_model.specs.Turn.{Board}
 use Rattle.or_bus.specs.State.{BusState}
@@ -15,8 +15,8 @@ use Rattle.or_script.specs.declared.command.Command.TheVariants.{Turn}
 use Rattle.or_debug.specs.declared.debugger.Debugger.{Debugger}
 use Rattle.or_debug.specs.Turns.{after, turn_made}
 use Rattle.or_debug.specs.Hits.{break_line, watch_line, hit_lines, ram_in}
-use Rattle.or_debug.specs.Session.{State, at_line}
-use Rattle.or_debug.specs.Standing.{IsAfter, Reaches, IsMade, IsFollowed, IsAnswered, Stands, seen, seen_line, addresses, state_of}
+use Rattle.or_debug.specs.Session.{at_line}
+use Rattle.or_debug.specs.Standing.{IsAfter, Reaches, IsMade, IsFollowed, IsAnswered, Stands, seen, seen_line, addresses}
 
 seen_suc : (f : Watchpoint → Watchpoint) (old : List Watchpoint) (i : ℕ) (d : Watchpoint) → i < length old
     → set (map f (take i old) ++ drop i old) i (f (get_or (map f (take i old) ++ drop i old) i d)) ≡ map f (take (suc i) old) ++ drop (suc i) old

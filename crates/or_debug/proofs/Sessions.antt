@@ -1,20 +1,19 @@
 -- Commands that are answered one by one.
-use Rattle.std.proofs.Common.{◌≡◌, ◌∙◌, refl, sym, ap, subst, ℕ, zero, suc, ◌+◌, ◌<◌, ◌≤◌, List, [], ◌∷◌, ◌++◌, length, take, drop, map, get_or, add-one, append_assoc, append-nil, Some, None, arith}
+use Rattle.std.proofs.Common.{◌≡◌, ◌∙◌, refl, sym, ap, subst, ℕ, ◌+◌, ◌<◌, ◌≤◌, List, [], ◌∷◌, ◌++◌, length, drop, map, get_or, add-one, append_assoc, append-nil, arith}
 use Rattle.std.proofs.Math.Seq.{drop-cons}
 use Rattle.std.proofs.lemmas.List.{drop_all}
 use Rattle.or_script.specs.declared.command.Command.{Command}
 use Rattle.or_model.specs.Core.{Core}
 use Rattle.or_model.specs.Turn.{Board}
 use Rattle.or_bus.specs.State.{BusState}
-use Rattle.circular_buffer.specs.Buffer.{Buffer, buffer}
+use Rattle.circular_buffer.specs.Buffer.{buffer}
 use Rattle.or_words.specs.declared.Config.{Config}
 use Rattle.or_replay.specs.Board.{IsBoard}
-use Rattle.or_debug.specs.declared.turns.MadeTurn.{MadeTurn}
 use Rattle.or_debug.specs.declared.points.Watchpoint.{Watchpoint}
 use Rattle.or_debug.specs.Turns.{after, turns_made, last_of}
 use Rattle.or_debug.specs.Hits.{ram_in}
 use Rattle.or_debug.specs.declared.debugger.Debugger.{Debugger}
-use Rattle.or_debug.specs.Session.{State, first_state, state_after, answer, session_from, state_behind, session_text}
+use Rattle.or_debug.specs.Session.{State, first_state, answer, session_from, state_behind, session_text}
 use Rattle.or_debug.specs.Standing.{IsAfter, Reaches, Stands, addresses, seen, state_of}
 use Rattle.or_debug.specs.Answers.{IsPart, IsAdded, IsUpTo, AreAnswered, SomeAnswered, IsRun, IsRunInPart}
 

@@ -1,6 +1,6 @@
 -- Texts that grow by a part.
-use Rattle.std.proofs.Common.{◌≡◌, ◌∙◌, refl, sym, ap, ℕ, zero, suc, ◌+◌, ◌-◌, ◌<◌, ◌≤◌, List, [], ◌∷◌, ◌++◌, length, drop, Some, None, append_assoc, append-nil, add-one, arith}
-use Rattle.std.specs.Prelude.{Option, slice_get}
+use Rattle.std.proofs.Common.{◌≡◌, ◌∙◌, refl, sym, ap, ℕ, zero, suc, ◌+◌, ◌-◌, ◌<◌, List, [], ◌∷◌, ◌++◌, drop, Some, None, append_assoc, add-one, arith}
+use Rattle.std.specs.Prelude.{slice_get}
 use Rattle.or_bus.specs.Answers.{word_shown}
 use Rattle.or_parts.specs.Bits.{plus}
 use Rattle.or_model.specs.World.{Access}

@@ -1,11 +1,7 @@
 -- How the debugger stands on a schedule.
-use Rattle.std.specs.Prelude.{◌≡◌, ◌≤◌, ℕ, ◌+◌, List, ◌++◌, Some, length, map, Result, Ok, Err, ◌⊎◌}
+use Rattle.std.specs.Prelude.{◌≡◌, ◌≤◌, ℕ, ◌+◌, List, ◌++◌, Some, length, map}
 use Rattle.circular_buffer.specs.Buffer.{Buffer, buffer}
-use Rattle.or_words.specs.declared.Config.{Config}
 use Rattle.or_script.specs.declared.command.Command.{Command}
-use Rattle.or_script.specs.declared.fault.ScriptFault.{ScriptFault}
-use Rattle.or_script.specs.declared.fault.ScriptFault.TheVariants.{NoMemory}
-use Rattle.or_script.specs.Script.{script_of, fault_of}
 use Rattle.or_model.specs.Core.{Core}
 use Rattle.or_model.specs.Turn.{Board, replay}
 use Rattle.or_bus.specs.State.{BusState}
@@ -16,7 +12,7 @@ use Rattle.or_debug.specs.declared.points.Watchpoint.{Watchpoint}
 use Rattle.or_debug.specs.declared.debugger.Debugger.{Debugger}
 use Rattle.or_debug.specs.Turns.{after, turn_made, turns_made, last_of}
 use Rattle.or_debug.specs.Hits.{ram_in, change_line, hit_lines}
-use Rattle.or_debug.specs.Session.{State, state_after, next_hit, answer, session_text, turns_followed}
+use Rattle.or_debug.specs.Session.{State, state_after, next_hit, answer}
 
 -- all turns of a schedule can be made from a board
 abbrev pub CanFollow : Board → List ℕ → Type 0

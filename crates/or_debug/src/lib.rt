@@ -9,6 +9,7 @@ mod turns;
 
 pub use answering::session;
 pub use or_script::{ScriptFault, check};
+pub use shown::{append_lines, append_memory, append_registers};
 
 #[cfg(test)]
 mod tests;

@@ -97,7 +97,7 @@ drop_get (turn ∷ turns) zero c at = let same : turn ≡ c = cc in ap (λ t. t 
 drop_get (turn ∷ turns) (suc n) c at = drop_get turns n c at
 
 -- a turn that is refused ends the replay
-refused_turn : (start now : Board) (turns : List ℕ) (n c : ℕ) → replay start (take n turns) ≡ Some now → slice_get turns n ≡ Some c → board_turned now c ≡ None
+pub refused_turn : (start now : Board) (turns : List ℕ) (n c : ℕ) → replay start (take n turns) ≡ Some now → slice_get turns n ≡ Some c → board_turned now c ≡ None
     → replay start turns ≡ None
 refused_turn start now turns n c reached at refused =
     let parts : take n turns ++ drop n turns ≡ turns = take-append-drop n turns in
@@ -109,7 +109,7 @@ get_past [] c past = refl
 get_past (core ∷ cores) zero past = absurd (omega (arith, past))
 get_past (core ∷ cores) (suc c) past = get_past cores c (omega (arith, past))
 
-get_some : (cores : List Core) (c : ℕ) → c < length cores → (core : Core) × (slice_get cores c ≡ Some core)
+pub get_some : (cores : List Core) (c : ℕ) → c < length cores → (core : Core) × (slice_get cores c ≡ Some core)
 get_some [] c inside = absurd (omega arith)
 get_some (core ∷ cores) zero inside = (core, refl)
 get_some (core ∷ cores) (suc c) inside = get_some cores c (omega arith)
@@ -125,7 +125,7 @@ stopped_core now c inside stopped =
     let core : Core = found.0 in
     ap (λ o. board_turned_by now c (running o)) found.1 ∙ ap (λ b. board_turned_by now c (cond b (Some core) None)) (stopped core found.1)
 
-refused_board : (refused : Refused) (now : Board) (c : ℕ) → RefusedBy {T = Unit {0}} now.cores c (Err refused) → board_turned now c ≡ None
+pub refused_board : (refused : Refused) (now : Board) (c : ℕ) → RefusedBy {T = Unit {0}} now.cores c (Err refused) → board_turned now c ≡ None
 refused_board NoSuchCore now c why = refused_core now c why
 refused_board CoreStopped now c why = stopped_core now c why.0 why.1
 
@@ -148,7 +148,7 @@ mark_is start turns given blocks mark now (inr all) at reached within =
     let same : mark_after (replay start (take (65536 * (blocks + 1)) turns)) ≡ mark = cc in
     sym same ∙ ap mark_after reached
 
-no_difference : (mark here : Mark) (fault : TurnFault) → mark ≡ here → Differs mark here fault → ⊥
+pub no_difference : (mark here : Mark) (fault : TurnFault) → mark ≡ here → Differs mark here fault → ⊥
 no_difference mark here (NoCore turn) same differs = differs
 no_difference mark here (Stopped turn) same differs = differs
 no_difference mark here (Running core) same differs = differs
@@ -175,7 +175,7 @@ has_stopped core stopped runs =
     let e : false ≡ true = sym (ap (λ (s : Option Stop). cond (is_none s) false true) runs) ∙ stopped in let c : ⊥ = cc in c
 
 -- no core runs among cores that all have stopped
-none_runs : (cores : List Core) (c : ℕ) (core : Core) → all_stopped cores ≡ true → slice_get cores c ≡ Some core → core.stop ≡ None → ⊥
+pub none_runs : (cores : List Core) (c : ℕ) (core : Core) → all_stopped cores ≡ true → slice_get cores c ≡ Some core → core.stop ≡ None → ⊥
 none_runs [] c core stopped at runs = let b : ⊥ = cc in b
 none_runs (first ∷ cores) zero core stopped at runs =
     let same : first ≡ core = cc in

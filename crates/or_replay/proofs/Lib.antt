@@ -8,3 +8,4 @@ pub mod Stopped
 pub mod Schedules
 pub mod Followed
 pub mod Followable
+pub mod FirstRefusal

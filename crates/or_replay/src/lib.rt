@@ -3,6 +3,7 @@
 
 mod board;
 mod follow;
+pub mod laws;
 mod opening;
 mod readers;
 mod reporting;
@@ -12,3 +13,6 @@ pub use board::{Board, Refused};
 pub use follow::TurnFault;
 pub use opening::OpenFault;
 pub use reporting::{core_text, report};
+
+#[cfg(test)]
+mod tests;

@@ -1,5 +1,5 @@
 -- A script without fault asks for at most 64 of the last turns in any line.
-use Rattle.std.proofs.Common.{◌≡◌, ◌∙◌, refl, sym, ap, subst, ℕ, ◌+◌, ◌<◌, ◌≤◌, Bool, true, false, cond, leb, ◌&&◌, List, [], ◌∷◌, Some, None, Result, Ok, Err, arith}
+use Rattle.std.proofs.Common.{◌≡◌, refl, subst, ℕ, ◌+◌, Bool, true, false, cond, leb, ◌&&◌, List, [], ◌∷◌, Some, None, Result, Ok, Err, arith}
 use Rattle.std.specs.Prelude.{Option, ◌==◌, ◌%◌, ◌*◌, nat_lt, nat_le, codes}
 use Rattle.std.specs.Str.{bytes_eq}
 use Rattle.or_words.specs.Settings.{ram_bytes}

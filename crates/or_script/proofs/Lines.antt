@@ -4,7 +4,7 @@ use Rattle.or_words.specs.declared.Config.{Config}
 use Rattle.or_script.specs.declared.command.Command.{Command}
 use Rattle.or_script.specs.declared.command.LineFault.{LineFault}
 use Rattle.or_script.specs.declared.script.Points.{Points}
-use Rattle.or_script.specs.Script.{points_after, command_at, onto, after_line, script_from, fault_at, fault_of, behind}
+use Rattle.or_script.specs.Script.{points_after, command_at, onto, after_line, script_from, fault_of, behind}
 
 -- what lines say that begin with a command
 pub script_ok : (config : Config) (number : ℕ) (points : Points) (line : List ℕ) (lines : List (List ℕ)) (command : Command) → command_at config points line ≡ Ok command

@@ -1,5 +1,4 @@
 use Rattle.std.proofs.Common.{◌∙◌, None}
-use Rattle.or_debug.specs.declared.points.Watchpoint.{Watchpoint}
 use Rattle.or_debug.specs.Standing.{seen}
 use Rattle.or_debug.proofs.Seen.{seen_more}
 use Rattle.or_debug.proofs.points.look_at_all.Goals as goal

@@ -1,4 +1,4 @@
-use Rattle.std.proofs.Common.{◌∙◌, ◌≡◌, ap, ◌++◌, refl}
+use Rattle.std.proofs.Common.{◌∙◌, ap, ◌++◌, refl}
 use Rattle.or_replay.specs.Board.{BoardState}
 use Rattle.or_debug.specs.Shown.{memory_text, word_line}
 use Rattle.or_debug.proofs.Texts.{word_more}

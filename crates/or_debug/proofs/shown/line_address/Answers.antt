@@ -1,4 +1,3 @@
-use Rattle.std.proofs.Common.{◌≡◌, ◌∙◌, ap, Some}
 use Rattle.or_debug.proofs.Held.{told_line, told_none}
 use Rattle.or_debug.proofs.shown.line_address.Goals as goal
 

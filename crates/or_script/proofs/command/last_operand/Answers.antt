@@ -1,4 +1,4 @@
-use Rattle.std.proofs.Common.{◌≡◌, ◌∙◌, sym, ap, ◌∷◌}
+use Rattle.std.proofs.Common.{◌∙◌, sym, ap, ◌∷◌}
 use Rattle.or_script.specs.Parts.{parts_behind}
 use Rattle.or_script.specs.Command.{form_of}
 use Rattle.or_script.proofs.Cuts.{four_words}

@@ -1,4 +1,4 @@
-use Rattle.std.proofs.Common.{◌≡◌, ◌∙◌, ◌+◌, sym, ap, subst, arith, rules}
+use Rattle.std.proofs.Common.{◌∙◌, sym, ap, subst, arith}
 use Rattle.or_script.specs.Parts.{parts_behind, length_behind}
 use Rattle.or_script.specs.Script.{AreFew}
 use Rattle.or_script.proofs.Lines.{fault_later}

@@ -1,4 +1,4 @@
-use Rattle.std.proofs.Common.{◌≡◌, ◌∙◌, ◌+◌, Ok, append-nil, sym, ap, subst, arith, rules}
+use Rattle.std.proofs.Common.{◌∙◌, Ok, append-nil, sym, ap, subst, arith, rules}
 use Rattle.or_script.specs.Parts.{parts_behind, length_behind}
 use Rattle.or_script.specs.Script.{AreFew, script_from, behind}
 use Rattle.or_script.proofs.Few.{few_script}

@@ -1,4 +1,4 @@
-use Rattle.std.proofs.Common.{◌∙◌, ◌≡◌, ◌++◌, sym, ap, eqb}
+use Rattle.std.proofs.Common.{◌∙◌, ◌++◌, sym, ap, eqb}
 use Rattle.std.proofs.lemmas.Result.{on_ok_weaker}
 use Rattle.or_debug.specs.Session.{end_line}
 use Rattle.or_debug.proofs.Going.{going_on, going_hits, going_ends, empty_length, some_length}
