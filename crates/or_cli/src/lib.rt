@@ -9,4 +9,6 @@ pub use or_board::{Gate, OpenGate};
 pub use or_host::{Blame, Deed, Failed, FileHost, Host, LoadFail, MemHost, SureHost};
 
 #[cfg(test)]
+mod replay_tests;
+#[cfg(test)]
 mod tests;

@@ -6,7 +6,7 @@ use std::test::Fail;
 use std::thread::Threads;
 
 // A file with one segment of four instructions at 00000100, which print `H` and stop.
-const IMAGE: [u8; 100] = [
+pub(crate) const IMAGE: [u8; 100] = [
     0x7F, 0x45, 0x4C, 0x46, 1, 2, 1, 0, 0, 0, 0, 0, 0, 0, 0, 0, //
     0, 2, 0, 0x5C, 0, 0, 0, 1, 0, 0, 1, 0, 0, 0, 0, 0x34, //
     0, 0, 0, 0, 0, 0, 0, 0, 0, 0x34, 0, 0x20, 0, 1, 0, 0, //
@@ -16,7 +16,7 @@ const IMAGE: [u8; 100] = [
     0x15, 0, 0, 1,
 ];
 
-fn words(alloc: Global, line: &str) -> Result<Vec<String>, AllocError> {
+pub(crate) fn words(alloc: Global, line: &str) -> Result<Vec<String>, AllocError> {
     let mut words = Vec::new(alloc);
     for word in line.split(' ') {
         words.push(String::from_str(alloc, word)?)?;
@@ -25,7 +25,7 @@ fn words(alloc: Global, line: &str) -> Result<Vec<String>, AllocError> {
 }
 
 // A host whose call of this number fails, with an image and an input.
-fn host(alloc: Global, image: &[u8], call: u64) -> Result<MemHost, Fail> {
+pub(crate) fn host(alloc: Global, image: &[u8], call: u64) -> Result<MemHost, Fail> {
     let mut host = MemHost::new(alloc, vec![in alloc; call]?);
     host.put("h.elf", image)?;
     host.put("i", b"A")?;

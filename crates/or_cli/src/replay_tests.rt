@@ -1,0 +1,48 @@
+//! Runs that are replayed by the top call, over a host in memory.
+use super::*;
+use crate::tests::{IMAGE, host, words};
+use std::test::Fail;
+
+// What a run on threads writes, its replay writes too.
+#[test]
+fn a_run_is_replayed(rt: HostRuntime) -> Result<(), Fail> {
+    let alloc = rt.alloc();
+    let mut host = host(alloc, &IMAGE, 0)?;
+    let run = words(alloc, "run h.elf i s r --cores 2 --ram 1")?;
+    assert_eq!(rt; top(&rt, alloc, &run, &mut host, &OpenGate), 0);
+    let replay = words(alloc, "replay h.elf i s r2")?;
+    assert_eq!(rt; top(&rt, alloc, &replay, &mut host, &OpenGate), 0);
+    assert!(rt; host.file("r2").is_some());
+    assert!(rt; host.file("r2") == host.file("r"));
+    assert!(rt; host.written() == b"HHHH".as_slice());
+    Ok(())
+}
+
+// A block of 65536 turns ends with its mark.
+#[test]
+fn blocks_have_marks(rt: HostRuntime) -> Result<(), Fail> {
+    let alloc = rt.alloc();
+    let mut image = IMAGE;
+    image[84..92].copy_from_slice(&[0, 0, 0, 0, 0x15, 0, 0, 0]);
+    let mut host = host(alloc, &image, 0)?;
+    let run = words(alloc, "run h.elf - s r --budget 65537 --ram 1")?;
+    assert_eq!(rt; top(&rt, alloc, &run, &mut host, &OpenGate), 0);
+    let recording = host.file("s").ok_or("no recording")?;
+    assert_eq!(rt; recording.len(), 197);
+    assert!(rt; recording.ends_with(b"\na65536\nmark 0 0\na\n"));
+    Ok(())
+}
+
+// Eight cores with the largest budget.
+#[test]
+fn the_largest_settings_run(rt: HostRuntime) -> Result<(), Fail> {
+    let alloc = rt.alloc();
+    let mut host = host(alloc, &IMAGE, 0)?;
+    let run = words(alloc, "run h.elf - s r --cores 8 --budget 67108864 --ram 1")?;
+    assert_eq!(rt; top(&rt, alloc, &run, &mut host, &OpenGate), 0);
+    let report = host.file("r").ok_or("no report")?;
+    assert!(rt;
+        report.starts_with(b"orreport 1\ncores 8 turns 32 console 8\ncore 0 exit 90000000 steps 4 ")
+    );
+    Ok(())
+}
