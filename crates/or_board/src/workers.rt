@@ -20,8 +20,8 @@ use std::sync::Wait;
 use std::thread;
 use std::thread::Threads;
 
-/// So many looks take about as long as a sleep and a wake.
-const LOOKS: u32 = 100;
+/// So many looks outlast the turns of all other cores, so that who waits seldom sleeps; a sleep and a wake cost far more than a turn.
+const LOOKS: u32 = 4000;
 
 // Works a unit's core until its stop.
 pub(crate) fn work_unit<R: Wait, G: Gate>(rt: &R, shared: &Shared, unit: &mut Unit, gate: &G)
