@@ -60,13 +60,13 @@ module _ (v : View) (t : ℕ) (follows : Bool) (has : HasBegun v follows) (m : S
   pub number_is : (begun_core v c).number ≡ c
   number_is = begins.settings.number ∙ (ap (λ (k : Core). k.number) same_core ∙ is_sound.same_number)
 
-  pub known : (begun_core v c).number < tk.transfer.bus.cores
+  pub known : (begun_core v c).number < tk.transfer.bus.value.cores
   known = let n = number_is in let l = told.0 in let e = tk.holds.cores in omega arith
 
   pub small : (begun_core v c).number < 256
   small = let n = number_is in let l = told.0 in let f = tk.fits.few_cores in omega arith
 
-  pub console_room : 0 < tk.transfer.bus.spare
+  pub console_room : 0 < tk.transfer.bus.value.spare
   console_room = let l = tk.left in let r = tk.holds.console_room in omega arith
 
   made : vec_len tk.transfer.schedule ≡ length tk.schedule
@@ -97,15 +97,15 @@ module _ (v : View) (t : ℕ) (follows : Bool) (has : HasBegun v follows) (m : S
   world_is = ap (λ (s : State). s.world) (halves b.world) ∙ ap (λ (x : Board). x.world) (sym one_more.0)
 
   abbrev pub Ends : Transfer → Core → Transfer → Core → Type 0
-  Ends old core new done = ((world : World) → Represents old.bus world → IsState (turn_ended core world follows) done new.bus) × KeepsBus old.bus new.bus
+  Ends old core new done = ((world : World) → Represents old.bus.value world → IsState (turn_ended core world follows) done new.bus.value) × KeepsBus old.bus.value new.bus.value
       × (new.schedule.items ≡ old.schedule.items ++ core.number ∷ [])
-      × ((world : World) → Represents new.bus world → new.marks.items ≡ with_mark (vec_len old.schedule + 1) world old.marks.items)
+      × ((world : World) → Represents new.bus.value world → new.marks.items ≡ with_mark (vec_len old.schedule + 1) world old.marks.items)
       × (vec_capacity new.schedule ≡ vec_capacity old.schedule) × (vec_capacity new.marks ≡ vec_capacity old.marks)
 
   holds_on : (new : Transfer) (done : Core) → Ends tk.transfer (begun_core v c) new done → SlotHolds st (tk.schedule ++ c ∷ []) new
   holds_on new done e =
       let grown = length-append tk.schedule (c ∷ []) in
-      let bus : Represents new.bus (board_of st (tk.schedule ++ c ∷ [])).world = subst (Represents new.bus) world_is (e.0 b.world tk.holds.bus).represents in record {
+      let bus : Represents new.bus.value (board_of st (tk.schedule ++ c ∷ [])).world = subst (Represents new.bus.value) world_is (e.0 b.world tk.holds.bus).represents in record {
         bus = bus;
         cores = e.1.cores ∙ tk.holds.cores;
         schedule = e.2 ∙ (λ i. tk.holds.schedule i ++ number_is i ∷ []);

@@ -80,7 +80,7 @@ module _ (v : View) (transfer : Transfer) (shut : LastKnows v transfer) (all : (
       or_count (x ∷ xs) (suc j) h = let r = or_count xs j (omega arith) in let a = count_cons (get_or xs j 0) x xs in omega arith
 
   -- and they are the cores of the bus
-  pub shut_order : (row : List Core) (bus : BusState) → row ≡ (board_of v.settings shut.schedule).cores → bus.cores ≡ transfer.bus.cores → AreOfBus row bus
+  pub shut_order : (row : List Core) (bus : BusState) → row ≡ (board_of v.settings shut.schedule).cores → bus.cores ≡ transfer.bus.value.cores → AreOfBus row bus
   shut_order row bus same of =
       let all_sound = sound v.settings shut.fits shut.schedule shut.defined in let many : length row ≡ v.settings.config.cores = ap (λ (l : List Core). length l) same ∙ all_sound.as_many in record {
         many = many ∙ sym (of ∙ shut.holds.cores);

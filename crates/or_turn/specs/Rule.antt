@@ -38,11 +38,11 @@ most_turns st = st.config.cores * st.config.budget
 
 -- what lies in the slot, for a schedule: the bus, the schedule and its marks, with room for all that may come
 pub record SlotHolds (st : Settings) (turns : List ℕ) (transfer : Transfer) : Type 0 where
-  pub bus : Represents transfer.bus (board_of st turns).world
-  pub cores : transfer.bus.cores ≡ st.config.cores
+  pub bus : Represents transfer.bus.value (board_of st turns).world
+  pub cores : transfer.bus.value.cores ≡ st.config.cores
   pub schedule : transfer.schedule.items ≡ turns
   pub marks : transfer.marks.items ≡ marks (first_board st) turns
-  pub console_room : most_turns st ≤ length turns + transfer.bus.spare
+  pub console_room : most_turns st ≤ length turns + transfer.bus.value.spare
   pub schedule_room : most_turns st ≤ vec_capacity transfer.schedule
   pub marks_room : most_turns st / 65536 ≤ vec_capacity transfer.marks
 

@@ -4,10 +4,11 @@ use or_sched::Mark;
 use or_shown::Shown;
 use or_words::Config;
 
-/// The bus with the schedule so far and its marks. It is out between a holder's take and put.
+/// The bus with the schedule so far and its marks. It is out between a holder's take and put. It goes in and out with each
+/// turn, so the bus, which is far larger than the rest, lies behind a box.
 #[derive(Drop)]
 pub struct Transfer {
-    pub bus: Bus,
+    pub bus: Box<Bus>,
     pub schedule: Vec<u8>,
     pub marks: Vec<Mark>,
 }

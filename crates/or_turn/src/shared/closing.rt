@@ -65,7 +65,7 @@ impl Shared {
         } = transfer;
         Closed {
             cores: in_order(cores),
-            bus,
+            bus: Box::into_inner(bus),
             schedule,
             marks,
         }

@@ -53,7 +53,7 @@ fn seat_all(
 // The slot's first value: the bus, with no turn made, and room for all turns and their marks.
 fn first_transfer(alloc: Global, config: &Config, bus: Bus) -> Result<Transfer, NoMemory>
     requires fits { Fits config.now }
-    ensures bus { IfOk result (λ transfer. transfer.bus ≡ bus) }
+    ensures bus { IfOk result (λ transfer. transfer.bus.value ≡ bus) }
     ensures none { IfOk result (λ transfer. (transfer.schedule.items ≡ []) × (transfer.marks.items ≡ [])) }
     ensures room { IfOk result (λ transfer. (config.now.cores * config.now.budget ≤ vec_capacity transfer.schedule) × (config.now.cores * config.now.budget / 65536 ≤ vec_capacity transfer.marks)) }
 {
@@ -62,6 +62,9 @@ fn first_transfer(alloc: Global, config: &Config, bus: Bus) -> Result<Transfer, 
         return Err(NoMemory);
     };
     let Ok(marks) = Vec::with_capacity(alloc, turns / 65536) else {
+        return Err(NoMemory);
+    };
+    let Ok(bus) = Box::new(alloc, bus) else {
         return Err(NoMemory);
     };
     Ok(Transfer {

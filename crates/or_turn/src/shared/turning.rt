@@ -22,8 +22,8 @@ const BLOCK: usize = 65536;
 // Adds the mark of a block that has ended.
 fn mark_block(transfer: &mut Transfer)
     requires room { vec_len transfer.old.schedule % 65536 ≡ 0 → vec_len transfer.old.marks < vec_capacity transfer.old.marks }
-    ensures marks { (world : World) → Represents transfer.old.bus world → transfer.new.marks.items ≡ with_mark (vec_len transfer.old.schedule) world transfer.old.marks.items }
-    ensures same { (transfer.new.bus ≡ transfer.old.bus) × (transfer.new.schedule ≡ transfer.old.schedule) }
+    ensures marks { (world : World) → Represents transfer.old.bus.value world → transfer.new.marks.items ≡ with_mark (vec_len transfer.old.schedule) world transfer.old.marks.items }
+    ensures same { (transfer.new.bus.value ≡ transfer.old.bus.value) × (transfer.new.schedule ≡ transfer.old.schedule) }
     ensures kept { vec_capacity transfer.new.marks ≡ vec_capacity transfer.old.marks }
 {
     if transfer.schedule.len() % BLOCK == 0 {
@@ -37,16 +37,16 @@ fn mark_block(transfer: &mut Transfer)
 // Makes the rest of a turn on the bus, and writes it into the schedule.
 fn end_turn(core: &mut Core, transfer: &mut Transfer, follows: bool)
     requires running { IsTrue follows → core.old.stop ≡ None }
-    requires known { (core.old.number < transfer.old.bus.cores) × (core.old.number < 256) }
-    requires room { (0 < transfer.old.bus.spare) × (vec_len transfer.old.schedule < vec_capacity transfer.old.schedule) × ((vec_len transfer.old.schedule + 1) % 65536 ≡ 0 → vec_len transfer.old.marks < vec_capacity transfer.old.marks) }
-    ensures state { (world : World) → Represents transfer.old.bus world → IsState (turn_ended core.old world follows) core.new transfer.new.bus }
-    ensures bus { KeepsBus transfer.old.bus transfer.new.bus }
+    requires known { (core.old.number < transfer.old.bus.value.cores) × (core.old.number < 256) }
+    requires room { (0 < transfer.old.bus.value.spare) × (vec_len transfer.old.schedule < vec_capacity transfer.old.schedule) × ((vec_len transfer.old.schedule + 1) % 65536 ≡ 0 → vec_len transfer.old.marks < vec_capacity transfer.old.marks) }
+    ensures state { (world : World) → Represents transfer.old.bus.value world → IsState (turn_ended core.old world follows) core.new transfer.new.bus.value }
+    ensures bus { KeepsBus transfer.old.bus.value transfer.new.bus.value }
     ensures schedule { transfer.new.schedule.items ≡ transfer.old.schedule.items ++ core.old.number ∷ [] }
-    ensures marks { (world : World) → Represents transfer.new.bus world → transfer.new.marks.items ≡ with_mark (vec_len transfer.old.schedule + 1) world transfer.old.marks.items }
+    ensures marks { (world : World) → Represents transfer.new.bus.value world → transfer.new.marks.items ≡ with_mark (vec_len transfer.old.schedule + 1) world transfer.old.marks.items }
     ensures kept { (vec_capacity transfer.new.schedule ≡ vec_capacity transfer.old.schedule) × (vec_capacity transfer.new.marks ≡ vec_capacity transfer.old.marks) }
 {
     transfer.schedule.push_reserved(core.number() as u8);
-    core.end_turn(&mut transfer.bus, follows);
+    core.end_turn(&mut *transfer.bus, follows);
     mark_block(transfer);
 }
 

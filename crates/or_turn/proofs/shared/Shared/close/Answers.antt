@@ -5,6 +5,7 @@ use Rattle.or_turn.specs.declared.view.Settings.{Settings}
 use Rattle.or_model.specs.Core.{Core}
 use Rattle.or_replay.specs.Marks.{marks}
 use Rattle.or_turn.specs.Schedules.{IsDefined, count, core_at, board_of, first_board}
+use Rattle.or_bus.specs.State.{BusState}
 use Rattle.or_bus.specs.Represents.{Represents}
 use Rattle.or_turn.specs.declared.view.Transfer.{Transfer}
 use Rattle.or_turn.specs.declared.view.View.{View}
@@ -40,13 +41,14 @@ returns c = let at = goal.at.returns c in let s = shut at.After-take in let v : 
     let are = cores_are v c.args.last.begun c.args.last.cores.items c.args.last.shown c.requires.rests in let m = length-map v.cores (core_of v) in
     let same : c.unwrap-transfer.result ≡ s.0 = some_is _ _ c.take.result c.unwrap-transfer.ensures s.1 in
     let schedule : c.unwrap-transfer.result.schedule.items ≡ s.2.schedule = ap (λ (x : Transfer). x.schedule.items) same ∙ s.2.holds.schedule in
+    let bus : c.into_inner.result ≡ s.0.bus.value = c.into_inner.ensures ∙ ap (λ (x : Transfer). x.bus.value) same in
     let row = shut_row v s.0 s.2 c.requires.whole c.in_order.result.items (c.in_order.ensures.len ∙ (ap (λ (xs : List Core). length xs) are ∙ m))
     (λ n l. subst (λ (xs : List Core). ((core_at c.in_order.result.items n).number ≡ n) × Among (core_at c.in_order.result.items n) xs) are (c.in_order.ensures.each n (let e = ap (λ (xs : List Core). length xs) are in omega arith))) in record {
       defined = subst (λ (xs : List ℕ). IsDefined st xs) (sym schedule) s.2.defined;
       cores = row ∙ ap (λ (xs : List ℕ). (board_of st xs).cores) (sym schedule);
       own = λ d h. ap (λ (xs : List Core). core_at xs d) row ∙ sym (shut_core v s.0 s.2 c.requires.whole d h);
-      bus = subst (λ (p : Transfer × List ℕ). Represents p.0.bus (board_of st p.1).world) (λ i. (sym same i, sym schedule i)) s.2.holds.bus;
-      order = shut_order v s.0 s.2 c.requires.whole c.in_order.result.items c.unwrap-transfer.result.bus row (ap (λ (x : Transfer). x.bus.cores) same);
+      bus = subst (λ (p : BusState × List ℕ). Represents p.0 (board_of st p.1).world) (λ i. (sym bus i, sym schedule i)) s.2.holds.bus;
+      order = shut_order v s.0 s.2 c.requires.whole c.in_order.result.items c.into_inner.result row (ap (λ (b : BusState). b.cores) bus);
       begins = subst (λ (xs : List ℕ). Rattle.or_turn.specs.Rule.Begins v.seen xs) (sym schedule) s.2.begins;
       told = λ d h. s.2.told d h ∙ ap (count d) (sym schedule);
       marks = ap (λ (x : Transfer). x.marks.items) same ∙ (s.2.holds.marks ∙ ap (λ (xs : List ℕ). marks (first_board st) xs) (sym schedule));

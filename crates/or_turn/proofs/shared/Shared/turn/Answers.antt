@@ -49,14 +49,14 @@ end_turn-requires-clause-running g c = λ e. let at = goal.at.end_turn-requires-
 pub end_turn-requires-clause-known : goal.end_turn-requires-clause-known
 end_turn-requires-clause-known g c = let at = goal.at.end_turn-requires-clause-known g c in let v : View = c.args.unit.now.seat.me.0 in let h = has g at.In-Some in let tk = took g at.After-wait_for_bus in
     let u = transfer_is g at.After-index-as_mut_slice-0 tk in let k = core_is g at.After-index-as_mut_slice-0 in (
-      subst (λ (p : Core × Transfer). p.0.number < p.1.bus.cores) (λ i. (sym k i, sym u i)) (turn.known v _ _ h _ tk),
+      subst (λ (p : Core × Transfer). p.0.number < p.1.bus.value.cores) (λ i. (sym k i, sym u i)) (turn.known v _ _ h _ tk),
       subst (λ (x : Core). x.number < 256) (sym k) (turn.small v _ _ h _ tk),
     )
 
 pub end_turn-requires-clause-room : goal.end_turn-requires-clause-room
 end_turn-requires-clause-room g c = let at = goal.at.end_turn-requires-clause-room g c in let v : View = c.args.unit.now.seat.me.0 in let h = has g at.In-Some in let tk = took g at.After-wait_for_bus in
     let u = transfer_is g at.After-index-as_mut_slice-0 tk in (
-      subst (λ (x : Transfer). 0 < x.bus.spare) (sym u) (turn.console_room v _ _ h _ tk),
+      subst (λ (x : Transfer). 0 < x.bus.value.spare) (sym u) (turn.console_room v _ _ h _ tk),
       subst (λ (x : Transfer). vec_len x.schedule < vec_capacity x.schedule) (sym u) (turn.schedule_room v _ _ h _ tk),
       subst (λ (x : Transfer). (vec_len x.schedule + 1) % 65536 ≡ 0 → vec_len x.marks < vec_capacity x.marks) (sym u) (turn.marks_room v _ _ h _ tk),
     )

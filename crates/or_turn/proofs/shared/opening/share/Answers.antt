@@ -21,11 +21,11 @@ pub new-requires : goal.new-requires
 new-requires c =
     let k : OpenedWith = c.args.opened.now in let st : Settings = settings_of k in let transfer : Transfer = c.in_ok-transfer.transfer in
     let t = c.in_ok-transfer.ensures in let p = c.into_parts-row.ensures in
-    let bus_is : transfer.bus ≡ c.args.board.bus = t.bus ∙ p.bus in
+    let bus_is : transfer.bus.value ≡ c.args.board.bus = t.bus ∙ p.bus in
     let row : c.into_parts-row.result.0.items ≡ (first_board st).cores = p.cores ∙ c.requires.board.same_cores in
     let many : length c.into_parts-row.result.0.items ≡ st.config.cores = ap (λ (l : List Core). length l) row ∙ (first_sound st c.requires.fits).as_many in
     let left : steps_left c.into_parts-row.result.0.items ≡ st.config.cores * st.config.budget = ap steps_left (row ∙ first_cores st) ∙ left-reset_cores st.config st.config.cores in
-    let spare : transfer.bus.spare ≡ c.into_parts-row.result.1.spare = ap (λ (b : BusState). b.spare) t.bus in
+    let spare : transfer.bus.value.spare ≡ c.into_parts-row.result.1.spare = ap (λ (b : BusState). b.spare) t.bus in
     let room = p.room in
     let holds : SlotHolds st [] transfer = record {
       bus = subst (λ (q : BusState × Board). Represents q.0 q.1.world) (λ i. (sym bus_is i, sym (board_none st) i)) c.requires.board.represents;
