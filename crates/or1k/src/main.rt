@@ -36,6 +36,10 @@ or1k gen SEED CORES ROUNDS SRC
     Writes the source of a workload to SRC: CORES cores, 1 to 8, count a counter up in ROUNDS rounds each, 1 to 100000,
     with delays that SEED gives, 0 to 4294967295. Run its image with --cores CORES --budget 10000000 --ram 1.
 
+or1k bench SEED CORES ROUNDS SCHED
+    Makes that workload, assembles it and runs it with that board. Writes the recording to SCHED, and to standard output
+    the line bench SEED CORES ROUNDS, then run and what the console has shown.
+
 or1k --help       prints this text
 or1k --version    prints the version
 

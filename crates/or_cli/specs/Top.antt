@@ -12,7 +12,8 @@ use Rattle.or_command_debug.specs.Debug.{debug_loads, DebugVerdict, DebugWrites}
 use Rattle.or_command_source.specs.Assembly.{asm_loads, asm_check, AsmWrites}
 use Rattle.or_command_source.specs.Listing.{dis_loads, dis_check, DisWrites, DisLacks}
 use Rattle.or_command_source.specs.Generation.{gen_loads, gen_check, GenWrites}
-use Rattle.or_cli.specs.Run.{run_loads, run_check, RunWrites}
+use Rattle.or_command_run.specs.Run.{run_loads, run_check, RunWrites}
+use Rattle.or_command_run.specs.Bench.{bench_loads, bench_check, BenchWrites}
 
 -- the commands that work cores on threads, and so wait
 abbrev pub is_threaded : Shown → Bool
@@ -28,6 +29,7 @@ is_done (asm source image) = true
 is_done (dis image) = true
 is_done (debug files script) = true
 is_done (gen workload source) = true
+is_done (bench workload schedule) = true
 is_done _ = false
 
 abbrev pub done_command : Option Shown → Option Shown
@@ -66,6 +68,7 @@ CommandEnds (asm source image) status old new = Answers (asm_loads source) (asm_
 CommandEnds (dis image) status old new = Answers (dis_loads image) (dis_check image) DisWrites (DisLacks image) status old new
 CommandEnds (debug files script) status old new = AnswersBy (debug_loads files script) (DebugVerdict files script) (DebugWrites files) LeavesAll status old new
 CommandEnds (gen workload source) status old new = Answers gen_loads gen_check (GenWrites workload source) LeavesAll status old new
+CommandEnds (bench workload schedule) status old new = Answers bench_loads (bench_check workload) (BenchWrites workload schedule) LeavesAll status old new
 CommandEnds _ status old new = ⊥
 
 -- where no fault came, the files decide the status, or memory ran out
@@ -76,4 +79,5 @@ IsComplete (asm source image) status old new = IsDecided (asm_loads source) (asm
 IsComplete (dis image) status old new = IsDecided (dis_loads image) (dis_check image) DisWrites (DisLacks image) status old new
 IsComplete (debug files script) status old new = IsDecidedBy (debug_loads files script) (DebugVerdict files script) (DebugWrites files) LeavesAll status old new
 IsComplete (gen workload source) status old new = IsDecided gen_loads gen_check (GenWrites workload source) LeavesAll status old new
+IsComplete (bench workload schedule) status old new = IsDecided bench_loads (bench_check workload) (BenchWrites workload schedule) LeavesAll status old new
 IsComplete _ status old new = ⊥

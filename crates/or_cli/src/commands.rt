@@ -6,17 +6,19 @@ ghost use Rattle.or_command_line.specs.Names.{run_names, recorded_names, AreWrit
 ghost use Rattle.or_command.specs.Outcomes.{LeavesAll};
 ghost use Rattle.or_command.specs.Answered.{Answers, AnswersBy, IsDecided, IsDecidedBy};
 ghost use Rattle.or_command_replay.specs.Replay.{replay_loads, RecordedVerdict, ReplayWrites};
-ghost use Rattle.or_cli.specs.Run.{run_loads, run_check, RunWrites};
+ghost use Rattle.or_command_run.specs.Run.{run_loads, run_check, RunWrites};
+ghost use Rattle.or_command_run.specs.Bench.{bench_loads, bench_check, BenchWrites};
 ghost use Rattle.or_command_line.specs.Words.{IsFileName};
+ghost use Rattle.or_command_line.specs.Workloads.{FitsWorkload};
 ghost use Rattle.or_command_debug.specs.Debug.{debug_loads, DebugVerdict, DebugWrites};
 ghost use Rattle.or_cli.specs.Top.{top_command, threaded_command, lone_command, IsUsage, CommandEnds, IsComplete};
 
-use crate::run::run;
 use or_board::Gate;
 use or_command::{conclude, say_usage};
 use or_command_debug::debug;
-use or_command_line::{Command, Recorded, Run, parse};
+use or_command_line::{Command, Recorded, Run, Workload, parse};
 use or_command_replay::replay;
+use or_command_run::{bench, run};
 use or_command_source::{asm, dis, generate};
 use or_host::Host;
 use std::alloc::Global;
@@ -40,6 +42,27 @@ fn run_command<R: Threads + Wait + Sync, H: Host, G: Gate + Sync>(
     ensures command { result ≢ 2 }
 {
     let outcome = run(rt, alloc, words, host, gate);
+    conclude(host, outcome)
+}
+
+// Runs a workload, and says how that ended.
+fn bench_command<R: Threads + Wait + Sync, H: Host, G: Gate + Sync>(
+    rt: &R,
+    alloc: Global,
+    workload: &Workload,
+    schedule: &str,
+    host: &mut H,
+    gate: &G,
+) -> u8
+    requires numbers { FitsWorkload workload.now }
+    requires name { IsFileName schedule.now }
+    ensures ends { Answers bench_loads (bench_check workload.now) (BenchWrites workload.now schedule.now) LeavesAll
+        result (H.state host.old) (H.state host.new) }
+    ensures complete { IsDecided bench_loads (bench_check workload.now) (BenchWrites workload.now schedule.now) LeavesAll
+        result (H.state host.old) (H.state host.new) }
+    ensures command { result ≢ 2 }
+{
+    let outcome = bench(rt, alloc, workload, schedule, host, gate);
     conclude(host, outcome)
 }
 
@@ -80,7 +103,7 @@ fn refuse_words<H: Host>(host: &mut H) -> u8
     2
 }
 
-/// Does what the words ask of the outside where that is a run on threads, and answers the status as `top` does. All other
+/// Does what the words ask of the outside where that works cores on threads, `run` and `bench`, and answers the status as `top` does. All other
 /// words are no command of this call. It waits.
 pub fn top_run<R: Threads + Wait + Sync, H: Host, G: Gate + Sync>(
     rt: &R,
@@ -96,6 +119,9 @@ pub fn top_run<R: Threads + Wait + Sync, H: Host, G: Gate + Sync>(
 {
     match parse(words) {
         Some(Command::Run(words)) => run_command(rt, alloc, &words, host, gate),
+        Some(Command::Bench { workload, schedule }) => {
+            bench_command(rt, alloc, &workload, schedule, host, gate)
+        }
         _ => refuse_words(host),
     }
 }
@@ -135,7 +161,7 @@ pub fn top<R: Threads + Wait + Sync, H: Host, G: Gate + Sync>(
     ensures complete { IfSome (top_command (texts words.now)) (λ command. IsComplete command result (H.state host.old) (H.state host.new)) }
 {
     match parse(words) {
-        Some(Command::Run(_)) => top_run(rt, alloc, words, host, gate),
+        Some(Command::Run(_) | Command::Bench { .. }) => top_run(rt, alloc, words, host, gate),
         _ => top_alone(alloc, words, host),
     }
 }

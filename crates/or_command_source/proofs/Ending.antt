@@ -6,7 +6,8 @@ use Rattle.or_asm_read.specs.Faults.{number_of_fault}
 use Rattle.or_asm.specs.Source.{source_of}
 use Rattle.or_elf.specs.declared.fault.ElfFault.{ElfFault}
 use Rattle.or_elf.specs.Fault.{elf_fault, number_of, place_of}
-use Rattle.or_elf.specs.Text.{Piece}
+use Rattle.or_elf.specs.Text.{Piece, word_count, elf_text}
+use Rattle.or_elf.proofs.WrittenFault.{length-elf_text}
 use Rattle.or_host.specs.Bytes.{AddsPrefix}
 use Rattle.or_host.specs.Told.{TellsSame, TellsStep}
 use Rattle.or_host.specs.HostState.{HostState}
@@ -29,7 +30,7 @@ pub asm_apart : (source image : List ℕ) → image ≢ source → (files : List
     → AsmWrites image files outs console → AreApart (asm_loads source) outs
 asm_apart source image apart files outs console writes = subst (AreApart (asm_loads source)) (sym writes.outputs) ((λ e. apart (sym e), tt), tt)
 
-source_status : (name : List ℕ) (said : Result (List Piece) (Fault × ℕ)) (fault : FailedCheck) → source_check name said ≡ Some fault → fault.status ≡ 9
+pub source_status : (name : List ℕ) (said : Result (List Piece) (Fault × ℕ)) (fault : FailedCheck) → source_check name said ≡ Some fault → fault.status ≡ 9
 source_status name (Ok program) fault e = absurd (let b : ⊥ = cc in b)
 source_status name (Err refusal) fault e =
     let same : record { status = 9; line = source_line name (number_of_fault refusal.0) refusal.1 } ≡ fault = cc in sym (ap (λ (f : FailedCheck). f.status) same)
@@ -146,3 +147,9 @@ image_small image [] state read = absurd read
 image_small image (file ∷ files) state read = read.1
 
 pub ruleset limits = (source_small, image_small)
+
+-- the file of a program that the writer takes is within the limit of an image
+pub file_small : (program : List Piece) → length program ≤ 64 → word_count program ≤ 16000000 → length (elf_text program) ≤ 67108864
+file_small program few short = omega (arith, length-elf_text program, few, short)
+
+pub ruleset files = (file_small)

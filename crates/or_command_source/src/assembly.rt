@@ -1,5 +1,5 @@
 //! The command `asm`.
-ghost use Rattle.std.specs.Prelude.{◌≡◌, ◌≢◌, ◌≤◌, ℕ, List, Result, [], ◌∷◌, MatchResult, length};
+ghost use Rattle.std.specs.Prelude.{◌≡◌, ◌≢◌, ◌≤◌, ℕ, List, Result, [], ◌∷◌, IfOk, MatchResult, length};
 ghost use Rattle.or_asm_read.specs.declared.fault.Fault.{Fault};
 ghost use Rattle.or_asm.specs.Source.{source_of, Refuses};
 ghost use Rattle.or_elf.specs.Text.{Piece};
@@ -21,10 +21,14 @@ use std::alloc::Global;
 
 const SOURCE_LIMIT: usize = 4_194_304;
 
-// The file of a source's program.
-fn program_file(alloc: Global, source: &[u8]) -> Result<Vec<u8>, AsmFault>
-    requires { length source.now ≤ 4194304 }
-    ensures { MatchResult result (λ file. IsFileOf source.now file.items) (λ fault. Refuses fault (source_of source.now)) }
+/// The ELF file of the program of a source of at most 4 MiB, which has at most 64 MiB.
+///
+/// Errors: the least fault of the source's first faulty line; NoMemory.
+#[tactic(auto, using(crate::proofs::Ending::files))]
+pub fn program_file(alloc: Global, source: &[u8]) -> Result<Vec<u8>, AsmFault>
+    requires limit { length source.now ≤ 4194304 }
+    ensures file { MatchResult result (λ file. IsFileOf source.now file.items) (λ fault. Refuses fault (source_of source.now)) }
+    ensures small { IfOk result (λ file. length file.items ≤ 67108864) }
 {
     let mut program = Program {
         pieces: Vec::new(alloc),
@@ -37,8 +41,8 @@ fn program_file(alloc: Global, source: &[u8]) -> Result<Vec<u8>, AsmFault>
     }
 }
 
-// How a source that has no program ends the command.
-fn refused(name: &str, fault: AsmFault) -> Outcome<'_>
+/// How a source of this name that has no program ends a command.
+pub fn refuse_source(name: &str, fault: AsmFault) -> Outcome<'_>
     ensures { (source : Result (List Piece) (Fault × ℕ)) → Refuses fault source → Stops (source_check name.now source) (end_of result) }
 {
     match fault.line() {
@@ -66,7 +70,7 @@ fn finish<'a, H: Host>(
 {
     match program_file(alloc, only_file(files)) {
         Ok(file) => write_file(image, &file, host),
-        Err(fault) => refused(source, fault),
+        Err(fault) => refuse_source(source, fault),
     }
 }
 

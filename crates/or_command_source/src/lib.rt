@@ -7,7 +7,7 @@ mod files;
 mod generation;
 mod listing;
 
-pub use assembly::asm;
+pub use assembly::{asm, program_file, refuse_source};
 pub use disassembly::dis;
 pub use generation::generate;
 

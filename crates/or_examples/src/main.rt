@@ -6,7 +6,7 @@ use or_cli::{FileHost, OpenGate, top};
 use std::alloc::{AllocError, Global};
 use std::process::ExitCode;
 
-const COMMANDS: [&str; 15] = [
+const COMMANDS: [&str; 17] = [
     "asm hello.s hello.elf",
     "run hello.elf - hello.sched hello.rep --ram 1",
     "dis hello.elf",
@@ -22,6 +22,8 @@ const COMMANDS: [&str; 15] = [
     "asm workload.s workload.elf",
     "run workload.elf - workload.sched workload.rep --cores 4 --budget 10000000 --ram 1",
     "replay workload.elf - workload.sched replayed.rep",
+    "bench 1 4 1000 bench.sched",
+    "replay workload.elf - bench.sched bench.rep",
 ];
 
 fn words(alloc: Global, line: &str) -> Result<Vec<String>, AllocError> {

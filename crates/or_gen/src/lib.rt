@@ -1,7 +1,7 @@
 //! The workload that the board is measured and raced by: a source in the assembler syntax for a seed, cores and rounds.
 #![tactic(auto)]
 
-ghost use Rattle.std.specs.Prelude.{◌≡◌, ◌≤◌, ◌*◌, ◌/◌, ◌++◌, [], codes, OnOk, OnErr};
+ghost use Rattle.std.specs.Prelude.{◌≡◌, ◌≤◌, ◌*◌, ◌/◌, ◌++◌, [], codes, length, OnOk, OnErr};
 ghost use Rattle.std.specs.List.{flat_map};
 ghost use Rattle.or_gen.specs.Workload.{workload, lines_text, number_text, upper_text, lower_text, delay_text, delays_text, next_number, set_up_lines, wait_lines, count_lines, print_lines, end_lines};
 
@@ -19,6 +19,9 @@ pub fn program(seed: u32, cores: u32, rounds: u32, out: &mut Vec<u8>) -> Result<
     requires empty { out.old.items ≡ [] }
     ensures text { OnOk result (out.new.items ≡ workload seed cores rounds) }
     ensures no_memory { OnErr result (out.new.items ≡ []) }
+
+    // What the assembler asks of a source.
+    ensures small { OnOk result (length out.new.items ≤ 4194304) }
 {
     match append_workload(seed, cores, rounds, out) {
         Ok(()) => Ok(()),

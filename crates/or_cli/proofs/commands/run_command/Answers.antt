@@ -3,8 +3,8 @@ use Rattle.or_command.specs.Ends.{end_of}
 use Rattle.or_command.specs.Outcomes.{LeavesAll}
 use Rattle.or_command.proofs.OutcomesLemmas.{said_leaves_all}
 use Rattle.or_command.proofs.AnsweredLemmas.{answered, decided, not_two}
-use Rattle.or_cli.specs.Run.{run_loads, run_check, RunWrites}
-use Rattle.or_cli.proofs.Runs.{run_not_two}
+use Rattle.or_command_run.specs.Run.{run_loads, run_check, RunWrites}
+use Rattle.or_command_run.proofs.Runs.{run_not_two}
 use Rattle.or_cli.proofs.commands.run_command.Goals as goal
 
 pub returns-clause-ends : goal.returns-clause-ends

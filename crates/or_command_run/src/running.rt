@@ -14,10 +14,12 @@ ghost use Rattle.or_command.specs.Loads.{bytes_of};
 ghost use Rattle.or_command_image.specs.Loaded.{image_in as image_of};
 ghost use Rattle.or_command.specs.Finishing.{WriteEnds};
 ghost use Rattle.or_command.specs.Answered.{FinishEnds};
-ghost use Rattle.or_cli.specs.Run.{run_loads, run_check, head_of, IsRun, IsRunFrom, RunWrites, RunFails};
+ghost use Rattle.or_command_run.specs.Recorded.{RunFails};
+ghost use Rattle.or_command_run.specs.Run.{run_loads, run_check, IsRun, IsRunFrom, RunWrites};
 
+use crate::opened::{head, refused};
 use or_board::Gate;
-use or_command::{LoadStop, Outcome, Output, Refusal, write_outputs};
+use or_command::{LoadStop, Outcome, Output, write_outputs};
 use or_command_image::{image_in, input_in, load_image};
 use or_command_line::Run;
 use or_host::Host;
@@ -25,7 +27,6 @@ use or_replay::{OpenFault, report};
 use or_sched::Head;
 use or_turn::Closed;
 use or_words::{Config, NoMemory};
-use sha2::{Digest, Sha256};
 use std::alloc::Global;
 use std::sync::Wait;
 use std::thread::Threads;
@@ -36,17 +37,6 @@ struct RunTexts {
     recording: Vec<u8>,
     report: Vec<u8>,
     console: Vec<u8>,
-}
-
-#[tactic(auto, unfolding(crate::specs::Run::head_of))]
-fn head(config: &Config, image: &[u8], input: &[u8]) -> Head
-    ensures { result ≡ head_of config.now image.now input.now }
-{
-    Head {
-        config: *config,
-        image: Sha256::digest(image),
-        input: Sha256::digest(input),
-    }
 }
 
 // The texts of a run that has come to its end.
@@ -83,7 +73,7 @@ fn texts(alloc: Global, head: &Head, closed: Closed) -> Result<RunTexts, NoMemor
 }
 
 // Runs the image with the input, and makes the texts.
-#[tactic(auto, unfolding(crate::specs::Run::head_of))]
+#[tactic(auto, unfolding(crate::specs::Recorded::head_of))]
 fn make<R: Threads + Wait + Sync, G: Gate + Sync>(
     rt: &R,
     alloc: Global,
@@ -134,12 +124,7 @@ fn finish<'a, R: Threads + Wait + Sync, H: Host, G: Gate + Sync>(
         gate,
     ) {
         Ok(texts) => write(words, &texts, host),
-        Err(OpenFault::NoMemory) => Outcome::NoMemory,
-        Err(OpenFault::Elf(fault)) => Outcome::Refused(Refusal::Image {
-            name: words.image,
-            fault: fault.number(),
-            place: u64::from(fault.place()),
-        }),
+        Err(fault) => refused(words.image, fault),
     }
 }
 
@@ -166,7 +151,7 @@ fn write<'a, H: Host>(words: &Run<'a>, texts: &RunTexts, host: &mut H) -> Outcom
 
 /// Runs an image: loads it and the input, works each core on a thread of its own until it has stopped, and writes the recording, the report and
 /// the console.
-pub(crate) fn run<'a, R: Threads + Wait + Sync, H: Host, G: Gate + Sync>(
+pub fn run<'a, R: Threads + Wait + Sync, H: Host, G: Gate + Sync>(
     rt: &R,
     alloc: Global,
     words: &Run<'a>,

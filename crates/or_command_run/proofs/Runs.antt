@@ -14,7 +14,7 @@ use Rattle.or_command.specs.Ends.{FailedCheck}
 use Rattle.or_command.specs.Outcomes.{AreApart}
 use Rattle.or_command_image.specs.Loaded.{image_loads, image_in, image_check, input_limit}
 use Rattle.or_command_line.specs.Names.{Names, AreWritten}
-use Rattle.or_cli.specs.Run.{run_loads, run_check, RunWrites}
+use Rattle.or_command_run.specs.Run.{run_loads, run_check, RunWrites}
 
 -- an image that was read is within its limit
 pub image_small : (image input : List ℕ) (files : List (List ℕ)) (state : HostState) → AreRead (image_loads image input) files state → length (image_in files) ≤ 67108864
@@ -39,7 +39,7 @@ pub apart_of : (names : Names) (config : Config) → AreWritten names → (files
     → AreApart (run_loads names) outs
 apart_of names config written files outs console writes = subst (AreApart (run_loads names)) (sym writes.outputs) (run_apart names writes.recording writes.report written)
 
-image_status : (name : List ℕ) (found : Option ElfFault) (fault : FailedCheck) → image_check name found ≡ Some fault → fault.status ≡ 3
+pub image_status : (name : List ℕ) (found : Option ElfFault) (fault : FailedCheck) → image_check name found ≡ Some fault → fault.status ≡ 3
 image_status name None fault e = absurd (let b : ⊥ = cc in b)
 image_status name (Some found) fault e =
     let same : record { status = 3; line = image_line name (number_of found) (place_of found) } ≡ fault = cc in sym (ap (λ (f : FailedCheck). f.status) same)

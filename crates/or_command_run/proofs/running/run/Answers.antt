@@ -6,9 +6,9 @@ use Rattle.or_command.specs.Loads.{bytes_of}
 use Rattle.or_command.specs.Ends.{end_of}
 use Rattle.or_command.specs.Answered.{FinishEnds}
 use Rattle.or_command.proofs.AnsweredLemmas.{goes_on}
-use Rattle.or_cli.specs.Run.{run_loads, run_check, RunWrites}
-use Rattle.or_cli.proofs.Runs.{apart_of}
-use Rattle.or_cli.proofs.run.run.Goals as goal
+use Rattle.or_command_run.specs.Run.{run_loads, run_check, RunWrites}
+use Rattle.or_command_run.proofs.Runs.{apart_of}
+use Rattle.or_command_run.proofs.running.run.Goals as goal
 
 pub returns-in-Ok-clause-outcome : goal.returns-in-Ok-clause-outcome
 returns-in-Ok-clause-outcome g c =

@@ -1,0 +1,42 @@
+-- From the parts of a bench to its outcome.
+use Rattle.std.proofs.Common.{◌≡◌, ◌≢◌, ℕ, List, Some, None, sym, ap, arith}
+use Rattle.std.specs.Prelude.{Option, Result, Ok, Err}
+use Rattle.or_words.specs.Settings.{ram_bytes}
+use Rattle.or_asm_read.specs.declared.fault.Fault.{Fault}
+use Rattle.or_asm.specs.Source.{source_of}
+use Rattle.or_elf.specs.Text.{Piece, elf_text}
+use Rattle.or_elf.specs.Fault.{elf_fault}
+use Rattle.or_command_line.specs.declared.Workload.{Workload}
+use Rattle.or_command.specs.Writes.{File}
+use Rattle.or_command.specs.Ends.{FailedCheck, CommandEnd, done, unread, too_long, refused, unwritten, no_memory}
+use Rattle.or_command.specs.Answered.{Stops}
+use Rattle.or_command.specs.Outcomes.{AreApart}
+use Rattle.or_command_source.specs.Assembly.{source_check}
+use Rattle.or_command_source.proofs.Ending.{source_status}
+use Rattle.or_command_run.specs.Bench.{bench_loads, bench_check, bench_config, bench_name, bench_source, program_check, BenchWrites}
+use Rattle.or_command_run.proofs.Runs.{image_status}
+
+-- no file is loaded that could be one of those that are written
+pub bench_apart : (numbers : Workload) (schedule : List ℕ) (files : List (List ℕ)) (outs : List File) (console : List ℕ)
+    → BenchWrites numbers schedule files outs console → AreApart bench_loads outs
+bench_apart numbers schedule files outs console writes = tt
+
+program_not_two : (numbers : Workload) (said : Result (List Piece) (Fault × ℕ)) (fault : FailedCheck) → program_check numbers said ≡ Some fault → fault.status ≢ 2
+program_not_two numbers (Ok program) fault found two =
+    let three = image_status bench_name (elf_fault (elf_text program) (ram_bytes (bench_config numbers))) fault found in absurd (omega (arith, three, two))
+program_not_two numbers (Err refusal) fault found two =
+    let nine = source_status bench_name (Err refusal) fault found in absurd (omega (arith, nine, two))
+
+-- a source that has no program stops a bench
+pub program_stops : (numbers : Workload) (said : Result (List Piece) (Fault × ℕ)) (end : CommandEnd) → Stops (source_check bench_name said) end → Stops (program_check numbers said) end
+program_stops numbers (Err refusal) end stops = stops
+program_stops numbers (Ok program) (refused fault) stops = absurd (let b : ⊥ = cc in b)
+program_stops numbers (Ok program) no_memory stops = stops
+program_stops numbers (Ok program) done stops = absurd stops
+program_stops numbers (Ok program) (unread name) stops = absurd stops
+program_stops numbers (Ok program) (too_long name limit) stops = absurd stops
+program_stops numbers (Ok program) (unwritten name) stops = absurd stops
+
+-- neither check of a bench has status 2
+pub bench_not_two : (numbers : Workload) (files : List (List ℕ)) (fault : FailedCheck) → bench_check numbers files ≡ Some fault → fault.status ≢ 2
+bench_not_two numbers files fault found two = program_not_two numbers (source_of (bench_source numbers)) fault found two

@@ -1,0 +1,9 @@
+//! The commands that work cores on threads: `run` and `bench`.
+#![tactic(auto)]
+
+mod benching;
+mod opened;
+mod running;
+
+pub use benching::bench;
+pub use running::run;
