@@ -10,8 +10,6 @@ mod report;
 mod whole;
 mod word;
 
-pub use line::Line;
-pub use or_words::NoMemory;
 pub use races::Races;
 pub use whole::{Added, report_of};
 
