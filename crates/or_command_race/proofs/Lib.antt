@@ -1,0 +1,4 @@
+pub mod Accesses
+pub mod Raced
+pub mod Reports
+pub mod Statuses

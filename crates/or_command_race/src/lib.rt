@@ -1,0 +1,11 @@
+//! The command `race`.
+#![tactic(auto)]
+
+mod events;
+pub mod laws;
+mod racing;
+
+pub use racing::race;
+
+#[cfg(test)]
+mod tests;

@@ -1,0 +1,9 @@
+pub mod Places
+pub mod Order
+pub mod Clocks
+pub mod Latest
+pub mod Turns
+pub mod Found
+pub mod Recorded
+pub mod Lined
+pub mod OneReport

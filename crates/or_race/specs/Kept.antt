@@ -1,0 +1,122 @@
+-- What the clocks and the last accesses say of the events so far. The report's definitions do not cite this file.
+use Rattle.std.specs.Prelude.{◌≡◌, ◌≢◌, ℕ, ◌<◌, ◌≤◌, ◌⊎◌, max, List, [], ◌∷◌, Option, Some, None, slice_get, slice_index}
+use Rattle.or_bus.specs.declared.access.AccessKind.{AccessKind}
+use Rattle.or_bus.specs.declared.access.AccessKind.TheVariants.{Load, Store, Linked, Conditional}
+use Rattle.or_race.specs.declared.line.Line.{Line}
+use Rattle.or_race.specs.declared.word.Word.{Word}
+use Rattle.or_race.specs.Event.{Event, Before}
+use Rattle.or_race.specs.Race.{Race, IsReported}
+
+-- the event at i is one that P holds of, or before such a one
+pub record Reaches (es : List Event) (P : Event → Type 0) (i : ℕ) : Type 0 where
+  pub j : ℕ
+  pub last : Event
+  pub at : slice_get es j ≡ Some last
+  pub holds : P last
+  pub way : (i ≡ j) ⊎ Before es i j
+
+-- The clock tells of each event whether K holds of its place, and names no turn past the last.
+pub record Covers (es : List Event) (last : ℕ) (clock : List ℕ) (K : ℕ → Type 0) : Type 0 where
+  pub told : (i : ℕ) (e : Event) → slice_get es i ≡ Some e → e.turn ≤ slice_index clock e.core → K i
+  pub counted : (i : ℕ) (e : Event) → slice_get es i ≡ Some e → K i → e.turn ≤ slice_index clock e.core
+  pub under : (core : ℕ) → slice_index clock core ≤ last
+
+abbrev pub OfCore : ℕ → Event → Type 0
+OfCore core e = e.core ≡ core
+
+-- a conditional store to the word
+pub record Releases (word : ℕ) (e : Event) : Type 0 where
+  pub kind : e.kind ≡ Conditional
+  pub same : e.word ≡ word
+
+-- an event that P holds of, in this turn
+pub record Witness (es : List Event) (P : Event → Type 0) (turn : ℕ) : Type 0 where
+  pub i : ℕ
+  pub e : Event
+  pub at : slice_get es i ≡ Some e
+  pub holds : P e
+  pub turn_is : e.turn ≡ turn
+
+-- the turn of the last event that P holds of, or 0
+pub record IsLatest (es : List Event) (P : Event → Type 0) (turn : ℕ) : Type 0 where
+  pub most : (i : ℕ) (e : Event) → slice_get es i ≡ Some e → P e → e.turn ≤ turn
+  pub some : 0 < turn → Witness es P turn
+
+pub record IsOf (word core : ℕ) (kind : AccessKind) (e : Event) : Type 0 where
+  pub same_word : e.word ≡ word
+  pub same_core : e.core ≡ core
+  pub same_kind : e.kind ≡ kind
+
+-- each core's last access of a kind
+abbrev pub lasts_of : AccessKind → Word → List ℕ
+lasts_of Load s = s.loads
+lasts_of Store s = s.stores
+lasts_of Linked s = s.linked
+lasts_of Conditional s = s.conditionals
+
+-- the last access of a core that conflicts with one of this kind
+abbrev pub conflicting_of : AccessKind → Word → ℕ → ℕ
+conflicting_of Load s core = max (slice_index s.stores core) (slice_index s.conditionals core)
+conflicting_of Store s core = max (max (slice_index s.loads core) (slice_index s.stores core)) (max (slice_index s.linked core) (slice_index s.conditionals core))
+conflicting_of Linked s core = slice_index s.stores core
+conflicting_of Conditional s core = max (slice_index s.loads core) (slice_index s.stores core)
+
+-- the line of a word, if it races
+abbrev pub FoundOk : List Event → ℕ → Option Line → Type 0
+FoundOk es word None = (i j : ℕ) → Race es word i j → ⊥
+FoundOk es word (Some line) = (line.word ≡ word) × IsReported es line
+
+pub record WordOk (es : List Event) (last word : ℕ) (s : Word) : Type 0 where
+  pub released : Covers es last s.released (Reaches es (Releases word))
+  pub lasts : (core : ℕ) (kind : AccessKind) → IsLatest es (IsOf word core kind) (slice_index (lasts_of kind s) core)
+  pub found : FoundOk es word s.found
+
+-- no other core's last conflicting access is one that the clock does not cover
+abbrev pub NoRace : ℕ → List ℕ → Word → Event → Type 0
+NoRace cores clock s e = (core : ℕ) → core < cores → core ≢ e.core → conflicting_of e.kind s core ≤ slice_index clock core
+
+-- the line names the last such access of all
+pub record IsLatestRace (cores : ℕ) (clock : List ℕ) (s : Word) (e : Event) (line : Line) : Type 0 where
+  pub word : line.word ≡ e.word
+  pub second_turn : line.second_turn ≡ e.turn
+  pub second_core : line.second_core ≡ e.core
+  pub in_cores : line.first_core < cores
+  pub other : line.first_core ≢ e.core
+  pub turn : line.first_turn ≡ conflicting_of e.kind s line.first_core
+  pub ahead : slice_index clock line.first_core < line.first_turn
+  pub most : (core : ℕ) → core < cores → core ≢ e.core → slice_index clock core < conflicting_of e.kind s core → conflicting_of e.kind s core ≤ line.first_turn
+
+-- the core's own clock: its own turn at its own place, and elsewhere what it had seen, with what was released on to it
+pub record NextClock (e : Event) (before released clock : List ℕ) : Type 0 where
+  pub own : slice_index clock e.core ≡ e.turn
+  pub joined : (core : ℕ) → core ≢ e.core → e.kind ≡ Linked → slice_index clock core ≡ max (slice_index before core) (slice_index released core)
+  pub kept : (core : ℕ) → core ≢ e.core → e.kind ≢ Linked → slice_index clock core ≡ slice_index before core
+
+-- what is kept of the word after the event, where clock is then the core's own
+pub record NextWord (cores : ℕ) (e : Event) (clock : List ℕ) (s new : Word) : Type 0 where
+  pub release_joined : (core : ℕ) → e.kind ≡ Conditional → slice_index new.released core ≡ max (slice_index s.released core) (slice_index clock core)
+  pub release_kept : e.kind ≢ Conditional → new.released ≡ s.released
+  pub last_is : slice_index (lasts_of e.kind new) e.core ≡ e.turn
+  pub last_others : (core : ℕ) → core ≢ e.core → slice_index (lasts_of e.kind new) core ≡ slice_index (lasts_of e.kind s) core
+  pub kinds_kept : (kind : AccessKind) → kind ≢ e.kind → lasts_of kind new ≡ lasts_of kind s
+  pub found_kept : (line : Line) → s.found ≡ Some line → new.found ≡ Some line
+  pub found_none : s.found ≡ None → new.found ≡ None → NoRace cores clock s e
+  pub found_some : (line : Line) → s.found ≡ None → new.found ≡ Some line → IsLatestRace cores clock s e line
+
+-- what the word's conditional stores release after an access of this kind
+pub record ReleasedAfter (kind : AccessKind) (old clock new : List ℕ) : Type 0 where
+  pub on : (core : ℕ) → kind ≡ Conditional → slice_index new core ≡ max (slice_index old core) (slice_index clock core)
+  pub off : kind ≢ Conditional → new ≡ old
+
+-- the cores' last accesses of a kind after the event
+pub record LastsAfter (e : Event) (kind : AccessKind) (old new : List ℕ) : Type 0 where
+  pub own : kind ≡ e.kind → slice_index new e.core ≡ e.turn
+  pub others : (core : ℕ) → core ≢ e.core → slice_index new core ≡ slice_index old core
+  pub kept : kind ≢ e.kind → new ≡ old
+
+-- a word with no access
+abbrev pub no_turns : List ℕ
+no_turns = 0 ∷ 0 ∷ 0 ∷ 0 ∷ 0 ∷ 0 ∷ 0 ∷ 0 ∷ []
+
+abbrev pub blank : Word
+blank = record { released = no_turns; loads = no_turns; stores = no_turns; linked = no_turns; conditionals = no_turns; found = None }

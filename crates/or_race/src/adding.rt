@@ -1,0 +1,58 @@
+//! The accesses of a schedule are added one after the other.
+ghost use Rattle.std.specs.Prelude.{◌≡◌, ℕ, ◌<◌, ◌≤◌, List, [], ◌∷◌, ◌++◌, OnOk, OnErr};
+ghost use Rattle.or_race.specs.Event.{Event, event};
+ghost use Rattle.or_race.specs.Records.{Records, cores_of, last_of, KnowsWord};
+
+use crate::races::Races;
+use crate::word::{blank_word, next_clock, next_word};
+use or_bus::Access;
+use or_words::NoMemory;
+use std::alloc::Global;
+use std::collections::BTreeMap;
+
+impl Races {
+    /// No accesses, of so many cores, at most 8. It takes no memory; `add` and `write` take it from `alloc`.
+    pub fn new(alloc: Global, cores: u32) -> Races
+        requires { cores ≤ 8 }
+        ensures none { Records result [] }
+        ensures cores { cores_of result ≡ cores }
+        ensures last { last_of result ≡ 0 }
+    {
+        Races {
+            alloc,
+            cores,
+            last: 0,
+            clocks: [[0; 8]; 8],
+            words: BTreeMap::new(alloc),
+        }
+    }
+
+    /// Adds the access of a turn. Turns are counted from 1, and this one is behind those added before. Errors: NoMemory, only
+    /// at a word's first access, and then all is as before.
+    pub fn add(&mut self, turn: u64, a: &Access) -> Result<(), NoMemory>
+        requires core { a.now.core < cores_of self.old }
+        requires later { last_of self.old < turn }
+        ensures ok { OnOk result ((events : List Event) → Records self.old events → Records self.new (events ++ event turn a.now ∷ [])) }
+        ensures err { OnErr result ((events : List Event) → Records self.old events → Records self.new events) }
+        ensures cores { cores_of self.new ≡ cores_of self.old }
+        ensures last { OnOk result (last_of self.new ≡ turn) }
+        ensures last_as_before { OnErr result (last_of self.new ≡ last_of self.old) }
+        // Only a word's first access takes memory.
+        ensures first { OnErr result (¬ KnowsWord self.old a.now.word) }
+        ensures known { OnOk result (KnowsWord self.new a.now.word) }
+        ensures still_known { (word : ℕ) → KnowsWord self.old word → KnowsWord self.new word }
+    {
+        let core = a.core as usize;
+        let before = self.words.get(&a.word).copied().unwrap_or(blank_word());
+        let clock = next_clock(&self.clocks[core], &before.released, turn, a);
+        let word = next_word(self.cores, &clock, &before, turn, a);
+        match self.words.insert(a.word, word) {
+            Ok(_) => {
+                self.clocks[core] = clock;
+                self.last = turn;
+                Ok(())
+            }
+            Err(_) => Err(NoMemory),
+        }
+    }
+}

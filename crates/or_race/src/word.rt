@@ -1,0 +1,163 @@
+//! What is kept of a word, and what an access does to it and to its core's vector clock.
+ghost use Rattle.std.specs.Prelude.{◌≡◌, ◌≢◌, ℕ, ◌<◌, ◌≤◌, max, slice_index, slice_set, IfNone, IfSome, if◌then◌else◌};
+ghost use Rattle.or_race.specs.Event.{event};
+ghost use Rattle.or_race.specs.Kept.{blank, conflicting_of, NextClock, NextWord, NoRace, IsLatestRace, ReleasedAfter, LastsAfter};
+
+use crate::line::Line;
+use or_bus::{Access, AccessKind};
+
+/// For each core the last of its turns that comes before something, and 0 where there is none.
+pub type VectorClock = [u64; 8];
+
+/// For each core the turn of its last access of a kind, and 0 where there is none.
+pub type Turns = [u64; 8];
+
+/// What is kept of a word: the clock that its conditional stores release, each core's last access of each kind, and the first
+/// race that was found on it.
+#[derive(Clone, Copy)]
+pub struct Word {
+    pub(crate) released: VectorClock,
+    pub(crate) loads: Turns,
+    pub(crate) stores: Turns,
+    pub(crate) linked: Turns,
+    pub(crate) conditionals: Turns,
+    pub(crate) found: Option<Line>,
+}
+
+// A word with no access.
+pub(crate) fn blank_word() -> Word
+    ensures { result ≡ blank }
+{
+    Word {
+        released: [0; 8],
+        loads: [0; 8],
+        stores: [0; 8],
+        linked: [0; 8],
+        conditionals: [0; 8],
+        found: None,
+    }
+}
+
+// The later of two turns.
+fn later(a: u64, b: u64) -> u64
+    ensures { result ≡ max a b }
+{
+    if a < b { b } else { a }
+}
+
+// The join of two clocks: the later turn, core by core.
+fn joined(a: &VectorClock, b: &VectorClock) -> VectorClock
+    ensures { (core : ℕ) → slice_index result core ≡ max (slice_index a.now core) (slice_index b.now core) }
+{
+    let mut both = *a;
+    for core in 0..8 {
+        both[core] = later(a[core], b[core]);
+    }
+    both
+}
+
+// The clock of the access's core after it. A linked load acquires what the word's conditional stores released.
+pub(crate) fn next_clock(
+    before: &VectorClock,
+    released: &VectorClock,
+    turn: u64,
+    a: &Access,
+) -> VectorClock
+    requires { a.now.core < 8 }
+    ensures { NextClock (event turn a.now) before.now released.now result }
+{
+    let mut clock = if a.kind == AccessKind::Linked {
+        joined(before, released)
+    } else {
+        *before
+    };
+    clock[a.core as usize] = turn;
+    clock
+}
+
+// The core's last access that conflicts with one of this kind.
+fn last_conflicting(kind: AccessKind, word: &Word, core: u32) -> u64
+    requires { core < 8 }
+    ensures { result ≡ conflicting_of kind word.now core }
+{
+    let at = core as usize;
+    match kind {
+        AccessKind::Load => word.stores[at].max(word.conditionals[at]),
+        AccessKind::Store => {
+            let plain = word.loads[at].max(word.stores[at]);
+            plain.max(word.linked[at].max(word.conditionals[at]))
+        }
+        AccessKind::Linked => word.stores[at],
+        AccessKind::Conditional => word.loads[at].max(word.stores[at]),
+    }
+}
+
+// The race of the access with the latest one that it races with.
+fn latest_race(cores: u32, clock: &VectorClock, word: &Word, turn: u64, a: &Access) -> Option<Line>
+    requires { cores ≤ 8 }
+    ensures none { IfNone result (NoRace cores clock.now word.now (event turn a.now)) }
+    ensures some { IfSome result (λ line. IsLatestRace cores clock.now word.now (event turn a.now) line) }
+{
+    let mut first_turn = 0;
+    let mut first_core = 0;
+    for core in 0..cores {
+        let conflicting = last_conflicting(a.kind, word, core);
+        if core != a.core && clock[core as usize] < conflicting && first_turn < conflicting {
+            first_turn = conflicting;
+            first_core = core;
+        }
+    }
+    if first_turn == 0 {
+        return None;
+    }
+    Some(Line {
+        word: a.word,
+        first_turn,
+        first_core,
+        second_turn: turn,
+        second_core: a.core,
+    })
+}
+
+// What the word's conditional stores release, after the access, where clock is then its core's clock.
+fn released_after(released: &VectorClock, clock: &VectorClock, a: &Access) -> VectorClock
+    ensures { ReleasedAfter a.now.kind released.now clock.now result }
+{
+    if a.kind == AccessKind::Conditional {
+        joined(released, clock)
+    } else {
+        *released
+    }
+}
+
+// Each core's last access of a kind, after the access.
+fn lasts_after(kind: AccessKind, turns: &Turns, turn: u64, a: &Access) -> Turns
+    requires { a.now.core < 8 }
+    ensures { LastsAfter (event turn a.now) kind turns.now result }
+{
+    let mut after = *turns;
+    if a.kind == kind {
+        after[a.core as usize] = turn;
+    }
+    after
+}
+
+// What is kept of the word after the access, where clock is then its core's clock.
+pub(crate) fn next_word(cores: u32, clock: &VectorClock, word: &Word, turn: u64, a: &Access) -> Word
+    requires cores { cores ≤ 8 }
+    requires core { a.now.core < 8 }
+    ensures { NextWord cores (event turn a.now) clock.now word.now result }
+{
+    let found = match word.found {
+        Some(line) => Some(line),
+        None => latest_race(cores, clock, word, turn, a),
+    };
+    Word {
+        released: released_after(&word.released, clock, a),
+        loads: lasts_after(AccessKind::Load, &word.loads, turn, a),
+        stores: lasts_after(AccessKind::Store, &word.stores, turn, a),
+        linked: lasts_after(AccessKind::Linked, &word.linked, turn, a),
+        conditionals: lasts_after(AccessKind::Conditional, &word.conditionals, turn, a),
+        found,
+    }
+}
