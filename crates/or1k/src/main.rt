@@ -32,6 +32,13 @@ or1k debug IMAGE INPUT SCHED SCRIPT
     Checks a recorded run as replay does, and follows it as the lines of SCRIPT say: go, turn N, break C ADDR, watch ADDR,
     regs C, mem ADDR N, lines C, last N. Writes what they show to standard output.
 
+or1k race IMAGE INPUT SCHED
+    Follows a recorded run, and writes to standard output the words of RAM that two cores come to with nothing that orders
+    them, with the turns and cores of two such accesses.
+
+or1k prof IMAGE INPUT SCHED
+    Follows a recorded run, and writes to standard output how many steps each core made in each function of IMAGE's symbols.
+
 or1k gen SEED CORES ROUNDS SRC
     Writes the source of a workload to SRC: CORES cores, 1 to 8, count a counter up in ROUNDS rounds each, 1 to 100000,
     with delays that SEED gives, 0 to 4294967295. Run its image with --cores CORES --budget 10000000 --ram 1.
@@ -45,7 +52,7 @@ or1k --version    prints the version
 
 Status: 0 all was done, 2 the words are no command, 3 the image has a fault, 4 the recording is refused, 5 a file was not
 read, 6 an output was not written, 7 no memory, 8 a file is too long, 9 the source has a fault, 10 the script has a
-fault, 13 an argument is no text. Where it is not 0, standard error has a line.
+fault, 12 the symbols have a fault, 13 an argument is no text. Where it is not 0, standard error has a line.
 ";
 
 // Whether the only word is this one.

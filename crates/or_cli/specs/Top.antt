@@ -2,7 +2,7 @@
 use Rattle.std.specs.Prelude.{ℕ, List, Bool, true, false, Option, Some, None, if◌then◌else◌}
 use Rattle.or_host.specs.HostState.{HostState}
 use Rattle.or_command_line.specs.Command.{Shown, command_of}
-use Rattle.or_command_line.specs.Command.Shown.{run, replay, asm, dis, debug, gen, bench}
+use Rattle.or_command_line.specs.Command.Shown.{run, replay, asm, dis, debug, gen, bench, race, prof}
 use Rattle.or_command.specs.Lines.{usage_line}
 use Rattle.or_command.specs.Said.{SaidLine}
 use Rattle.or_command.specs.Outcomes.{LeavesAll}
@@ -12,6 +12,8 @@ use Rattle.or_command_debug.specs.Debug.{debug_loads, DebugVerdict, DebugWrites}
 use Rattle.or_command_source.specs.Assembly.{asm_loads, asm_check, AsmWrites}
 use Rattle.or_command_source.specs.Listing.{dis_loads, dis_check, DisWrites, DisLacks}
 use Rattle.or_command_source.specs.Generation.{gen_loads, gen_check, GenWrites}
+use Rattle.or_command_race.specs.Race.{race_loads, RaceVerdict, RaceWrites}
+use Rattle.or_command_prof.specs.Prof.{prof_loads, ProfVerdict, ProfWrites}
 use Rattle.or_command_run.specs.Run.{run_loads, run_check, RunWrites}
 use Rattle.or_command_run.specs.Bench.{bench_loads, bench_check, BenchWrites}
 
@@ -30,6 +32,8 @@ is_done (dis image) = true
 is_done (debug files script) = true
 is_done (gen workload source) = true
 is_done (bench workload schedule) = true
+is_done (race files) = true
+is_done (prof files) = true
 is_done _ = false
 
 abbrev pub done_command : Option Shown → Option Shown
@@ -69,6 +73,8 @@ CommandEnds (dis image) status old new = Answers (dis_loads image) (dis_check im
 CommandEnds (debug files script) status old new = AnswersBy (debug_loads files script) (DebugVerdict files script) (DebugWrites files) LeavesAll status old new
 CommandEnds (gen workload source) status old new = Answers gen_loads gen_check (GenWrites workload source) LeavesAll status old new
 CommandEnds (bench workload schedule) status old new = Answers bench_loads (bench_check workload) (BenchWrites workload schedule) LeavesAll status old new
+CommandEnds (race files) status old new = AnswersBy (race_loads files) (RaceVerdict files) (RaceWrites files) LeavesAll status old new
+CommandEnds (prof files) status old new = AnswersBy (prof_loads files) (ProfVerdict files) (ProfWrites files) LeavesAll status old new
 CommandEnds _ status old new = ⊥
 
 -- where no fault came, the files decide the status, or memory ran out
@@ -80,4 +86,6 @@ IsComplete (dis image) status old new = IsDecided (dis_loads image) (dis_check i
 IsComplete (debug files script) status old new = IsDecidedBy (debug_loads files script) (DebugVerdict files script) (DebugWrites files) LeavesAll status old new
 IsComplete (gen workload source) status old new = IsDecided gen_loads gen_check (GenWrites workload source) LeavesAll status old new
 IsComplete (bench workload schedule) status old new = IsDecided bench_loads (bench_check workload) (BenchWrites workload schedule) LeavesAll status old new
+IsComplete (race files) status old new = IsDecidedBy (race_loads files) (RaceVerdict files) (RaceWrites files) LeavesAll status old new
+IsComplete (prof files) status old new = IsDecidedBy (prof_loads files) (ProfVerdict files) (ProfWrites files) LeavesAll status old new
 IsComplete _ status old new = ⊥

@@ -11,12 +11,16 @@ ghost use Rattle.or_command_run.specs.Bench.{bench_loads, bench_check, BenchWrit
 ghost use Rattle.or_command_line.specs.Words.{IsFileName};
 ghost use Rattle.or_command_line.specs.Workloads.{FitsWorkload};
 ghost use Rattle.or_command_debug.specs.Debug.{debug_loads, DebugVerdict, DebugWrites};
+ghost use Rattle.or_command_prof.specs.Prof.{prof_loads, ProfVerdict, ProfWrites};
+ghost use Rattle.or_command_race.specs.Race.{race_loads, RaceVerdict, RaceWrites};
 ghost use Rattle.or_cli.specs.Top.{top_command, threaded_command, lone_command, IsUsage, CommandEnds, IsComplete};
 
 use or_board::Gate;
 use or_command::{conclude, say_usage};
 use or_command_debug::debug;
 use or_command_line::{Command, Recorded, Run, Workload, parse};
+use or_command_prof::prof;
+use or_command_race::race;
 use or_command_replay::replay;
 use or_command_run::{bench, run};
 use or_command_source::{asm, dis, generate};
@@ -94,6 +98,32 @@ fn debug_command<H: Host>(alloc: Global, names: &Recorded<'_>, script: &str, hos
     conclude(host, outcome)
 }
 
+// Reports the races of a recorded run, and says how that ended.
+fn race_command<H: Host>(alloc: Global, names: &Recorded<'_>, host: &mut H) -> u8
+    requires names { AreRecorded (recorded_names names.now) }
+    ensures ends { AnswersBy (race_loads (recorded_names names.now)) (RaceVerdict (recorded_names names.now)) (RaceWrites (recorded_names names.now)) LeavesAll
+        result (H.state host.old) (H.state host.new) }
+    ensures complete { IsDecidedBy (race_loads (recorded_names names.now)) (RaceVerdict (recorded_names names.now)) (RaceWrites (recorded_names names.now)) LeavesAll
+        result (H.state host.old) (H.state host.new) }
+    ensures command { result ≢ 2 }
+{
+    let outcome = race(alloc, names, host);
+    conclude(host, outcome)
+}
+
+// Profiles a recorded run, and says how that ended.
+fn prof_command<H: Host>(alloc: Global, names: &Recorded<'_>, host: &mut H) -> u8
+    requires names { AreRecorded (recorded_names names.now) }
+    ensures ends { AnswersBy (prof_loads (recorded_names names.now)) (ProfVerdict (recorded_names names.now)) (ProfWrites (recorded_names names.now)) LeavesAll
+        result (H.state host.old) (H.state host.new) }
+    ensures complete { IsDecidedBy (prof_loads (recorded_names names.now)) (ProfVerdict (recorded_names names.now)) (ProfWrites (recorded_names names.now)) LeavesAll
+        result (H.state host.old) (H.state host.new) }
+    ensures command { result ≢ 2 }
+{
+    let outcome = prof(alloc, names, host);
+    conclude(host, outcome)
+}
+
 // Says that the words are no command.
 fn refuse_words<H: Host>(host: &mut H) -> u8
     ensures status { result ≡ 2 }
@@ -140,13 +170,16 @@ pub fn top_alone<H: Host>(alloc: Global, words: &[String], host: &mut H) -> u8
         Some(Command::Dis { image }) => dis(alloc, image, host),
         Some(Command::Debug { files, script }) => debug_command(alloc, &files, script, host),
         Some(Command::Gen { workload, source }) => generate(alloc, &workload, source, host),
+        Some(Command::Race { files }) => race_command(alloc, &files, host),
+        Some(Command::Prof { files }) => prof_command(alloc, &files, host),
         _ => refuse_words(host),
     }
 }
 
 /// Does what the words ask of the outside, and answers the status: 0 where all was done, 2 where the words are no command,
 /// 3 where the image has a fault, 4 where the recording is refused, 5 where a file was not read, 6 where an output was not
-/// written, 7 for want of memory, 8 where a file is too long, 9 where the source has a fault, 10 where the script has one.
+/// written, 7 for want of memory, 8 where a file is too long, 9 where the source has a fault, 10 where the script has one,
+/// 12 where the symbols of a profiled image have one.
 /// The line of a status other than 0 is said.
 pub fn top<R: Threads + Wait + Sync, H: Host, G: Gate + Sync>(
     rt: &R,

@@ -4,7 +4,7 @@ ghost use Rattle.or_host.specs.HostState.{HostState};
 ghost use Rattle.or_words.specs.Settings.{Fits};
 ghost use Rattle.or_command.specs.Leaves.{Silent};
 ghost use Rattle.or_command.specs.Ends.{end_of};
-ghost use Rattle.or_command.specs.Finishing.{WriteEnds, GoesOn};
+ghost use Rattle.or_command.specs.Finishing.{GoesOn};
 ghost use Rattle.or_command.specs.Outcomes.{OutcomeBy, LeavesAll};
 ghost use Rattle.or_command.specs.Loads.{bytes_of};
 ghost use Rattle.or_command_line.specs.Names.{recorded_names, AreRecorded};
@@ -16,22 +16,13 @@ ghost use Rattle.or_command_race.specs.Following.{CanFollow};
 ghost use Rattle.or_command_race.specs.Race.{race_loads, RaceVerdict, RaceWrites};
 
 use crate::events::report;
-use or_command::{LoadStop, Outcome, write_outputs};
+use or_command::{LoadStop, Outcome};
 use or_command_image::{load_recorded, recorded_in};
 use or_command_line::Recorded;
-use or_command_replay::{Checked, Recording, check, open_board, refuse};
+use or_command_replay::{Recording, check, open_board, refuse, tell};
 use or_host::Host;
 use or_words::NoMemory;
 use std::alloc::Global;
-
-// The recording of a run whose checks have passed, without the board at its end.
-fn recording_of(run: Checked) -> Recording
-    ensures { result ≡ run.recording }
-{
-    let Checked { recording, board } = run;
-    let _ended = board;
-    recording
-}
 
 // The race report on a recorded run. The image has no fault, so only memory keeps its board from being opened.
 fn text(
@@ -51,17 +42,6 @@ fn text(
     }
 }
 
-// Writes the report.
-fn write<'a, H: Host>(text: &[u8], host: &mut H) -> Outcome<'a>
-    ensures outcome { WriteEnds [] text.now (end_of result) (H.state host.old) (H.state host.new) }
-    ensures silent { Silent (H.state host.old) (H.state host.new) }
-{
-    match write_outputs(host, &[], text) {
-        Ok(()) => Outcome::Done,
-        Err(name) => Outcome::Unwritten(name),
-    }
-}
-
 // How a race report on files that were loaded ends.
 fn finish<'a, H: Host>(
     alloc: Global,
@@ -76,9 +56,9 @@ fn finish<'a, H: Host>(
     let read = recorded_in(names.input, files);
     match check(alloc, read) {
         Ok(run) => {
-            let recording = recording_of(run);
+            let recording = run.into_recording();
             match text(alloc, &recording, read.image, read.input) {
-                Ok(text) => write(&text, host),
+                Ok(text) => tell(&text, host),
                 Err(_) => Outcome::NoMemory,
             }
         }

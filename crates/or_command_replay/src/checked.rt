@@ -52,6 +52,17 @@ pub struct Checked {
     pub board: Board,
 }
 
+impl Checked {
+    /// The recording alone, for a command that makes its turns again.
+    pub fn into_recording(self) -> Recording
+        ensures { result ≡ self.recording }
+    {
+        let Checked { recording, board } = self;
+        let _ended = board;
+        recording
+    }
+}
+
 /// Makes the checks of a recorded run in their order, and follows it to its end.
 ///
 /// Errors: the first check that fails; NoMemory.

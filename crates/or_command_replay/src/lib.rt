@@ -5,10 +5,12 @@ mod checked;
 pub mod laws;
 mod refused;
 mod replaying;
+mod telling;
 
 pub use checked::{Checked, Recording, RunFault, check, open_board};
 pub use refused::refuse;
 pub use replaying::replay;
+pub use telling::tell;
 
 #[cfg(test)]
 mod tests;

@@ -15,11 +15,11 @@ returns-in-Ok-text-clause-outcome g c =
     let bytes = bytes_in names files in
     let read = c.recorded_in-read.result in
     let told = c.recorded_in-read.ensures in
-    let checked = checked_in bytes read.image.now read.input.now read.recording.now c.in-Ok.run' c.recording_of-recording.result told.image told.input told.recording c.recording_of-recording.ensures c.in-Ok.ensures in
+    let checked = checked_in bytes read.image.now read.input.now read.recording.now c.in-Ok.run' c.into_recording-recording.result told.image told.input told.recording c.into_recording-recording.ensures c.in-Ok.ensures in
     let debugged = c.in-Ok-text.ensures bytes told.image told.input checked in
-    written_ends names c.args.script.now files c.in-Ok-text.text.items (end_of c.write.result) (g.H.Host.state c.args.host.now) (g.H.Host.state c.write.new.host)
+    written_ends names c.args.script.now files c.in-Ok-text.text.items (end_of c.tell.result) (g.H.Host.state c.args.host.now) (g.H.Host.state c.tell.new.host)
     (subst (λ (l : List ℕ). IsDebugged bytes l c.in-Ok-text.text.items) c.script_in-lines.ensures debugged)
-    (subst (λ (l : List ℕ). WriteEnds [] l (end_of c.write.result) (g.H.Host.state c.args.host.now) (g.H.Host.state c.write.new.host)) c.deref.ensures.value c.write.ensures.outcome)
+    (subst (λ (l : List ℕ). WriteEnds [] l (end_of c.tell.result) (g.H.Host.state c.args.host.now) (g.H.Host.state c.tell.new.host)) c.deref.ensures.value c.tell.ensures.outcome)
 
 pub returns-in-Ok-clause-outcome : goal.returns-in-Ok-clause-outcome
 returns-in-Ok-clause-outcome g c =
@@ -28,7 +28,7 @@ returns-in-Ok-clause-outcome g c =
     let bytes = bytes_in names files in
     let read = c.recorded_in-read.result in
     let told = c.recorded_in-read.ensures in
-    let checked = checked_in bytes read.image.now read.input.now read.recording.now c.in-Ok.run' c.recording_of-recording.result told.image told.input told.recording c.recording_of-recording.ensures c.in-Ok.ensures in
+    let checked = checked_in bytes read.image.now read.input.now read.recording.now c.in-Ok.run' c.into_recording-recording.result told.image told.input told.recording c.into_recording-recording.ensures c.in-Ok.ensures in
     let faulted = c.in-Err-text.ensures bytes told.image told.input checked in
     script_ends names c.args.script.now files c.in-Err-text.fault (end_of c.refuse_script.result) (g.H.Host.state c.args.host.now)
     (subst (λ (l : List ℕ). IsText bytes l (Err c.in-Err-text.fault)) c.script_in-lines.ensures faulted) c.refuse_script.ensures

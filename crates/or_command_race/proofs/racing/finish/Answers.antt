@@ -13,9 +13,9 @@ returns-in-Ok-text-clause-outcome g c =
     let files = bytes_of c.args.files.now in
     let read = c.recorded_in-read.result in
     let told = c.recorded_in-read.ensures in
-    let kept = c.recording_of-recording.result in
+    let kept = c.into_recording-recording.result in
     let report = c.in-Ok-text.text.items in
-    let checked = kept_checked read.image.now read.input.now read.recording.now c.in-Ok.run' kept c.recording_of-recording.ensures c.in-Ok.ensures in
-    written_ends names files report (end_of c.write.result) (g.H.Host.state c.args.host.now) (g.H.Host.state c.write.new.host)
+    let checked = kept_checked read.image.now read.input.now read.recording.now c.in-Ok.run' kept c.into_recording-recording.ensures c.in-Ok.ensures in
+    written_ends names files report (end_of c.tell.result) (g.H.Host.state c.args.host.now) (g.H.Host.state c.tell.new.host)
     (report_in (bytes_in names files) read.image.now read.input.now read.recording.now report kept told.image told.input told.recording checked c.in-Ok-text.ensures)
-    (subst (λ (l : List ℕ). WriteEnds [] l (end_of c.write.result) (g.H.Host.state c.args.host.now) (g.H.Host.state c.write.new.host)) c.deref.ensures.value c.write.ensures.outcome)
+    (subst (λ (l : List ℕ). WriteEnds [] l (end_of c.tell.result) (g.H.Host.state c.args.host.now) (g.H.Host.state c.tell.new.host)) c.deref.ensures.value c.tell.ensures.outcome)

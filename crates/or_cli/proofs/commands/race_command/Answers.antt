@@ -1,0 +1,30 @@
+use Rattle.or_command_line.specs.Names.{recorded_names}
+use Rattle.or_command.specs.Ends.{end_of}
+use Rattle.or_command.specs.Outcomes.{LeavesAll}
+use Rattle.or_command.proofs.OutcomesLemmas.{said_leaves_all}
+use Rattle.or_command.proofs.AnsweredLemmas.{answered_by, decided_by, not_two_by}
+use Rattle.or_command_race.specs.Race.{race_loads, RaceVerdict, RaceWrites}
+use Rattle.or_command_race.proofs.Statuses.{race_not_two}
+use Rattle.or_cli.proofs.commands.race_command.Goals as goal
+
+pub returns-clause-ends : goal.returns-clause-ends
+returns-clause-ends g c =
+    let names = recorded_names c.args.names.now in
+    let a = g.H.Host.state c.args.host.now in
+    let b = g.H.Host.state c.race-outcome.new.host in
+    let d = g.H.Host.state c.conclude.new.host in
+    answered_by (race_loads names) (RaceVerdict names) (RaceWrites names) LeavesAll (end_of c.race-outcome.result) c.conclude.result a b d
+    (λ left. said_leaves_all a b d left c.conclude.ensures.only) c.conclude.ensures.status c.race-outcome.ensures.outcome c.race-outcome.ensures.silent
+    c.conclude.ensures.line c.conclude.ensures.only
+
+pub returns-clause-complete : goal.returns-clause-complete
+returns-clause-complete g c =
+    let names = recorded_names c.args.names.now in
+    decided_by (race_loads names) (RaceVerdict names) (RaceWrites names) LeavesAll c.conclude.result
+    (g.H.Host.state c.args.host.now) (g.H.Host.state c.conclude.new.host) (returns-clause-ends g c)
+
+pub returns-clause-command : goal.returns-clause-command
+returns-clause-command g c =
+    let names = recorded_names c.args.names.now in
+    not_two_by (race_loads names) (RaceVerdict names) (RaceWrites names) LeavesAll c.conclude.result
+    (g.H.Host.state c.args.host.now) (g.H.Host.state c.conclude.new.host) (race_not_two names) (returns-clause-ends g c)
