@@ -42,11 +42,10 @@ fn races_of(alloc: Global, board: &mut Board, turns: &[u8]) -> Result<Races, NoM
 }
 
 // The race report on a schedule from a board.
-pub(crate) fn report(alloc: Global, board: Board, turns: &[u8]) -> Result<Vec<u8>, NoMemory>
+pub(crate) fn report(alloc: Global, mut board: Board, turns: &[u8]) -> Result<Vec<u8>, NoMemory>
     requires follows { CanBeFollowed turns.now board.cores board.bus }
     ensures { IfOk result (λ text. (start : BoardModel) → IsBoard board.cores board.bus start → CanFollow start turns.now → RaceText (events_of start turns.now) text.items) }
 {
-    let mut board = board;
     let races = races_of(alloc, &mut board, turns)?;
     let mut text = Vec::new(alloc);
     races.write(&mut text)?;
