@@ -1,0 +1,4 @@
+pub mod Added
+pub mod CoreTexts
+pub mod Counting
+pub mod Gets
