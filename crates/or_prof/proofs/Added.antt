@@ -1,5 +1,5 @@
 -- A profile at its opening, and with one trace more.
-use Rattle.std.proofs.Common.{◌≡◌, ◌≢◌, ◌∙◌, ap, refl, sym, subst, ℕ, zero, suc, ◌==◌, cond, Bool, true, false, List, [], ◌∷◌, ◌++◌, Option, Some, None, ◌⊎◌, inl, inr, append-nil, arith}
+use Rattle.std.proofs.Common.{◌≡◌, ◌≢◌, ◌∙◌, ap, refl, sym, subst, ℕ, ◌==◌, cond, Bool, true, false, List, [], ◌∷◌, ◌++◌, Option, Some, None, inl, inr, append-nil, arith}
 use Rattle.std.proofs.lemmas.Grind.{common_steps}
 use Rattle.std.proofs.lemmas.Bool.Decides.{nat_tests}
 use Rattle.std.proofs.lemmas.List.Elements.{filter-append}
@@ -8,10 +8,8 @@ use Rattle.std.specs.Prelude.{slice_get, slice_index, slice_set, replicate}
 use Rattle.std.specs.List.{filter, flat_map}
 use Rattle.or_elf.specs.Symbols.{SymbolTable}
 use Rattle.or_prof.specs.Tally.{Counts, count_in, no_counts, AreEmpty}
+use Rattle.or_prof.proofs.Gets.{nat_cases, get-set_same, get-set_other}
 use Rattle.or_prof.specs.Profile.{Addition, items_of, count_of, AreCounts, IsProfile}
-
-nat_cases : (a b : ℕ) → (a ≡ b) ⊎ (a ≢ b)
-nat_cases a b = grind (arith, nat_tests)
 
 zero_at : (size index : ℕ) → slice_index (replicate size 0) index ≡ 0
 zero_at size index = grind (arith, common_steps)
@@ -45,18 +43,6 @@ items_own core trace = same_number core (record { core = core; trace = trace }) 
 items_other : (core other : ℕ) (trace : List ℕ) → other ≢ core → items_of other (record { core = core; trace = trace } ∷ []) ≡ []
 items_other core other trace differ = same_number other (record { core = core; trace = trace }) false (grind (arith, nat_tests))
 
-got_same : (cores : List Counts) (core : ℕ) (old new got : Counts) → slice_get cores core ≡ Some old → slice_get (slice_set cores core new) core ≡ Some got → new ≡ got
-got_same [] core old new got is found = absurd (let b : ⊥ = cc in b)
-got_same (x ∷ cores) zero old new got is found = let e : new ≡ got = cc in e
-got_same (x ∷ cores) (suc core) old new got is found = got_same cores core old new got is found
-
-got_other : (cores : List Counts) (core other : ℕ) (new : Counts) → other ≢ core → slice_get (slice_set cores core new) other ≡ slice_get cores other
-got_other [] core other new differ = refl
-got_other (x ∷ cores) zero zero new differ = absurd (differ refl)
-got_other (x ∷ cores) zero (suc other) new differ = refl
-got_other (x ∷ cores) (suc core) zero new differ = refl
-got_other (x ∷ cores) (suc core) (suc other) new differ = got_other cores core other new (λ same. differ (ap suc same))
-
 -- one core's counts are those of its trace too, and the others' as before
 pub added : (symbols : SymbolTable) (cores : List Counts) (core : ℕ) (trace : List ℕ) (old new : Counts) (additions : List Addition) → slice_get cores core ≡ Some old
     → ((items : List ℕ) → AreCounts symbols items old → AreCounts symbols (items ++ trace) new) → IsProfile (record { symbols = symbols; cores = cores }) additions
@@ -66,7 +52,7 @@ added symbols cores core trace old new additions at more is = record {
     | inl same ↦
         subst (λ (c : ℕ). AreCounts symbols (items_of c (additions ++ record { core = core; trace = trace } ∷ [])) got) (sym same)
         (subst (AreCounts symbols (items_of core (additions ++ record { core = core; trace = trace } ∷ [])))
-        (got_same cores core old new got at (subst (λ (c : ℕ). slice_get (slice_set cores core new) c ≡ Some got) same found))
+        (get-set_same cores core old new got at (subst (λ (c : ℕ). slice_get (slice_set cores core new) c ≡ Some got) same found))
         (subst (λ (l : List ℕ). AreCounts symbols l new)
         (sym (items_more core additions (record { core = core; trace = trace }) ∙ ap (λ (l : List ℕ). items_of core additions ++ l) (items_own core trace)))
         (more (items_of core additions) (is.counts core old at))))
@@ -74,6 +60,6 @@ added symbols cores core trace old new additions at more is = record {
         subst (λ (l : List ℕ). AreCounts symbols l got)
         (sym (items_more other additions (record { core = core; trace = trace }) ∙ (ap (λ (l : List ℕ). items_of other additions ++ l) (items_other core other trace differ)
         ∙ append-nil (items_of other additions))))
-        (is.counts other got (sym (got_other cores core other new differ) ∙ found))
+        (is.counts other got (sym (get-set_other cores core other new differ) ∙ found))
   ];
 }

@@ -1,5 +1,5 @@
 //! The profile.
-ghost use Rattle.std.specs.Prelude.{◌≡◌, ◌<◌, ◌≤◌, ◌+◌, ◌++◌, ◌^◌, [], ◌∷◌, List, IfOk, OnOk, OnErr, length};
+ghost use Rattle.std.specs.Prelude.{◌≡◌, ◌<◌, ◌≤◌, ◌+◌, ◌++◌, ◌^◌, [], ◌∷◌, ◌≢◌, ℕ, List, IfOk, OnOk, OnErr, length};
 ghost use Rattle.or_prof.specs.Tally.{AreEmpty};
 ghost use Rattle.or_prof.specs.Profile.{Addition, IsProfile, steps_of, AreSized, Profiled};
 ghost use Rattle.or_prof.specs.Text.{IsProfText, AreCoreTexts, Appends};
@@ -66,6 +66,8 @@ impl Profile {
         requires room { steps_of self.old core + length trace.now < 2 ^ 27 }
         ensures profile { (additions : List Addition) → IsProfile self.old additions
             → IsProfile self.new (additions ++ record { core = core; trace = trace.now } ∷ []) }
+        ensures steps { steps_of self.new core ≡ steps_of self.old core + length trace.now }
+        ensures others { (other : ℕ) → other ≢ core → steps_of self.new other ≡ steps_of self.old other }
         ensures cores { length self.new.cores ≡ length self.old.cores }
         ensures symbols { self.new.symbols ≡ self.old.symbols }
     {

@@ -93,6 +93,7 @@ pub fn count_all(finder: &mut Finder, tally: &mut Tally, trace: &[u32])
     requires known { AreBelow (length tally.old.by_index) finder.old.functions }
     requires room { tally.old.steps + length trace.now < 2 ^ 27 }
     ensures counts { (items : List ℕ) → AreCounts finder.old items tally.old → AreCounts finder.old (items ++ trace.now) tally.new }
+    ensures steps { tally.new.steps ≡ tally.old.steps + length trace.now }
     ensures size { length tally.new.by_index ≡ length tally.old.by_index }
     ensures symbols { finder.new ≡ finder.old }
 {
