@@ -4,7 +4,7 @@ use Rattle.std.proofs.lemmas.Grind.{common_steps}
 use Rattle.std.proofs.lemmas.Bool.Decides.{nat_tests}
 use Rattle.std.proofs.lemmas.List.Sums.{sum_by-append}
 use Rattle.std.proofs.lemmas.List.{length-append}
-use Rattle.std.specs.Prelude.{IfSome, slice_index, slice_set, count_by, if◌then◌else◌, nat_lt}
+use Rattle.std.specs.Prelude.{IfSome, slice_get, slice_index, slice_set, count_by, if◌then◌else◌, nat_lt}
 use Rattle.or_elf.specs.declared.symbols.Function.{Function}
 use Rattle.or_elf.specs.Symbols.{SymbolTable, covers, later_start, innermost, function_of}
 use Rattle.or_prof.specs.Tally.{Counts, count_in, counted, AreBelow}
@@ -25,13 +25,14 @@ where_covers P true function is = is
 where_covers P false function is = tt
 
 -- the innermost function is one of the functions
-innermost_below : (size : ℕ) (functions : List Function) (pc : ℕ) → AreBelow size functions → IfSome (innermost functions pc) (λ (function : Function). function.index < size)
+pub innermost_holds : (P : Function → Type 0) (functions : List Function) (pc : ℕ) → ((k : ℕ) (function : Function) → slice_get functions k ≡ Some function → P function)
+    → IfSome (innermost functions pc) P
 unfolding innermost
-innermost_below size [] pc below = tt
-innermost_below size (function ∷ others) pc below =
-    later_holds (λ (function : Function). function.index < size) (if covers pc function then Some function else None) (innermost others pc)
-    (where_covers (λ (function : Function). function.index < size) (covers pc function) function (below zero function refl))
-    (innermost_below size others pc (λ k other found. below (suc k) other found))
+innermost_holds P [] pc each = tt
+innermost_holds P (function ∷ others) pc each =
+    later_holds P (if covers pc function then Some function else None) (innermost others pc)
+    (where_covers P (covers pc function) function (each zero function refl))
+    (innermost_holds P others pc (λ k other found. each (suc k) other found))
 
 index_below : (size : ℕ) (found : Option Function) → IfSome found (λ (function : Function). function.index < size)
     → IfSome (Rattle.std.specs.Option.option_map (λ (function : Function). function.index) found) (λ index. index < size)
@@ -40,7 +41,8 @@ index_below size (Some function) is = is
 
 -- the index of a pc's function is below the size
 pub function_known : (size : ℕ) (symbols : SymbolTable) (pc : ℕ) → AreBelow size symbols.functions → IfSome (function_of symbols pc) (λ index. index < size)
-function_known size symbols pc below = index_below size (innermost symbols.functions pc) (innermost_below size symbols.functions pc below)
+function_known size symbols pc below =
+    index_below size (innermost symbols.functions pc) (innermost_holds (λ (function : Function). function.index < size) symbols.functions pc below)
 
 raised_at : (xs : List ℕ) (i j : ℕ) → i < length xs → slice_index (slice_set xs i (slice_index xs i + 1)) j ≡ slice_index xs j + cond (i == j) 1 0
 raised_at xs i j inside = grind (arith, common_steps, nat_tests)

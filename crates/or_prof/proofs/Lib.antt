@@ -2,3 +2,4 @@ pub mod Added
 pub mod CoreTexts
 pub mod Counting
 pub mod Gets
+pub mod Sums

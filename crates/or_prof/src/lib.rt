@@ -2,6 +2,7 @@
 #![tactic(auto)]
 
 mod finding;
+pub mod laws;
 mod profiling;
 mod ranking;
 mod tallying;
