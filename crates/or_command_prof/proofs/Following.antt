@@ -9,7 +9,7 @@ use Rattle.or_prof.specs.Text.{IsProfText, Appends}
 use Rattle.or_prof.specs.Profile.{Addition, Profiled, IsProfile}
 use Rattle.or_command_prof.specs.Traces.{addition_of, where_made, traces, IsAdded, IsAhead}
 
-then_some : (first : Option Board) (next : Board → Option Board) (last : Board) → and_then first next ≡ Some last → (middle : Board) × (first ≡ Some middle) × (next middle ≡ Some last)
+pub then_some : (first : Option Board) (next : Board → Option Board) (last : Board) → and_then first next ≡ Some last → (middle : Board) × (first ≡ Some middle) × (next middle ≡ Some last)
 then_some None next last is = absurd (let b : ⊥ = cc in b)
 then_some (Some middle) next last is = (middle, refl, is)
 

@@ -104,7 +104,7 @@ has_room profile cores bus c many level inside few =
     let steps = at.steps in let within = at.within.steps in let budget = at.few in omega arith
 
 -- a core at reset
-reset-is : (config : Config) (count c : ℕ) (core : Core) → slice_get (reset_cores config count) c ≡ Some core → (n : ℕ) × (reset_core config n ≡ core)
+pub reset-is : (config : Config) (count c : ℕ) (core : Core) → slice_get (reset_cores config count) c ≡ Some core → (n : ℕ) × (reset_core config n ≡ core)
 unfolding reset_cores
 reset-is config zero c core found = absurd (let b : ⊥ = cc in b)
 reset-is config (suc count) c core found =

@@ -3,3 +3,4 @@ pub mod Images
 pub mod Levels
 pub mod Profiled
 pub mod Statuses
+pub mod StepCounts

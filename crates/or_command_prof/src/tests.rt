@@ -110,9 +110,11 @@ fn changed(at: usize, byte: u8) -> [u8; 260]
 #[test]
 fn profiles(rt: HostRuntime) -> Result<(), Fail> {
     let alloc = rt.alloc();
+    let whole = plain();
+    let hello: &[u8] = &whole[..100];
     let cases: [(&[u8], &str, &str, u8, &[u8], &[u8]); 7] = [
         (
-            &plain()[..100],
+            hello,
             PLAIN,
             "a4\n",
             0,
