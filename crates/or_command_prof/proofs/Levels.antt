@@ -1,5 +1,5 @@
 -- A profile stays level with the cores: it has as many items of each as the core has made steps.
-use Rattle.std.proofs.Common.{◌≡◌, ◌≢◌, ◌∙◌, refl, sym, ap, subst, ℕ, zero, suc, ◌+◌, ◌<◌, ◌≤◌, ◌^◌, cond, Bool, true, false, List, [], ◌∷◌, ◌++◌, Option, Some, None, Result, Ok, Err, length, ◌⊎◌, inl, inr, arith}
+use Rattle.std.proofs.Common.{◌≡◌, ◌≢◌, ◌∙◌, refl, sym, ap, subst, ℕ, zero, suc, ◌+◌, ◌<◌, ◌≤◌, ◌^◌, cond, Bool, true, false, List, [], Option, Some, None, Ok, length, inl, inr, arith}
 use Rattle.std.proofs.lemmas.Grind.{common_steps}
 use Rattle.std.specs.Prelude.{slice_get, slice_set, is_none}
 use Rattle.or_words.specs.declared.Config.{Config}
@@ -10,14 +10,12 @@ use Rattle.or_model.specs.Counts.{IsWithinBudget}
 use Rattle.or_model.specs.Turn.{Board, running, with_core, turn, board_turned, board_turned_by, reset_cores}
 use Rattle.or_model.proofs.Turns.{turn-adds}
 use Rattle.or_bus.specs.State.{BusState}
-use Rattle.or_replay.specs.declared.board.Refused.{Refused}
 use Rattle.or_replay.specs.Board.{IsBoard, IsTurned}
 use Rattle.or_replay.specs.Start.{start}
-use Rattle.or_replay.specs.Watching.{CountsSteps}
 use Rattle.or_replay.proofs.Reset.{length-reset_cores}
 use Rattle.or_prof.specs.Tally.{Counts}
 use Rattle.or_prof.specs.Profile.{Profiled, IsProfile, steps_in, steps_of}
-use Rattle.or_prof.proofs.Gets.{nat_cases, get-inside, get-snoc, get-set, get-set_same, get-set_other}
+use Rattle.or_prof.proofs.Gets.{nat_cases, get-inside, get-snoc, get-set_same, get-set_other}
 use Rattle.or_command_prof.specs.Level.{IsAt, IsLevel}
 
 length_set : (cores : List Core) (c : ℕ) (new : Core) → length (slice_set cores c new) ≡ length cores

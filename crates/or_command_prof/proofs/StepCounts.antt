@@ -1,14 +1,14 @@
 -- A turn's trace has as many items as the turn has steps, and so have the traces of a schedule.
-use Rattle.std.proofs.Common.{◌≡◌, ◌≢◌, ◌∙◌, refl, sym, ap, subst, ℕ, zero, suc, ◌+◌, ◌<◌, ◌==◌, cond, Bool, true, false, List, [], ◌∷◌, ◌++◌, Option, Some, None, length, ◌⊎◌, inl, inr, add-zero, arith}
+use Rattle.std.proofs.Common.{◌≡◌, ◌≢◌, ◌∙◌, refl, sym, ap, subst, ℕ, zero, suc, ◌+◌, ◌<◌, ◌==◌, cond, Bool, true, false, List, [], ◌∷◌, Option, Some, length, inl, inr, add-zero, arith}
 use Rattle.std.proofs.lemmas.Bool.Decides.{nat_tests}
 use Rattle.std.proofs.lemmas.List.{length-append}
-use Rattle.std.specs.Prelude.{slice_get, slice_set, is_none}
+use Rattle.std.specs.Prelude.{slice_get, is_none}
 use Rattle.std.specs.List.{filter, flat_map}
 use Rattle.or_words.specs.declared.Config.{Config}
 use Rattle.or_model.specs.Core.{Core, reset_core}
 use Rattle.or_model.specs.World.{World}
-use Rattle.or_model.specs.Step.{step, private_step, empty_world}
-use Rattle.or_model.specs.Turn.{Board, Begun, steps_alone, begun_within, turn_begun, turn_ended, turn, board_turned, and_then, replay, reset_cores}
+use Rattle.or_model.specs.Step.{private_step, empty_world}
+use Rattle.or_model.specs.Turn.{Board, Begun, steps_alone, begun_within, turn_begun, turn_ended, turn, board_turned, replay, reset_cores}
 use Rattle.or_model.specs.Trace.{trace_within, private_trace, bus_trace, turn_trace}
 use Rattle.or_model.proofs.Steps.{step-adds}
 use Rattle.or_replay.specs.Start.{start}

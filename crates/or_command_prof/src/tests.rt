@@ -8,8 +8,18 @@ use or_host::MemHost;
 use std::alloc::{AllocError, Global};
 use std::test::Fail;
 
-// A file with one segment of four instructions at 00000100, which print `H` and stop, and a symbol table of two symbols: the
-// second is the function `main`, the 8 bytes at 00000100.
+// A file with one segment of four instructions at 00000100, which print `H` and stop.
+const IMAGE: [u8; 100] = [
+    0x7F, 0x45, 0x4C, 0x46, 1, 2, 1, 0, 0, 0, 0, 0, 0, 0, 0, 0, //
+    0, 2, 0, 0x5C, 0, 0, 0, 1, 0, 0, 1, 0, 0, 0, 0, 0x34, //
+    0, 0, 0, 0, 0, 0, 0, 0, 0, 0x34, 0, 0x20, 0, 1, 0, 0, //
+    0, 0, 0, 0, 0, 0, 0, 1, 0, 0, 0, 0x54, 0, 0, 1, 0, //
+    0, 0, 1, 0, 0, 0, 0, 0x10, 0, 0, 0, 0x10, 0, 0, 0, 7, //
+    0, 0, 0, 4, 0x18, 0x60, 0x90, 0, 0x9C, 0x80, 0, 0x48, 0xD8, 3, 0x20, 0, //
+    0x15, 0, 0, 1,
+];
+
+// The same with a symbol table of two symbols: the second is the function `main`, the 8 bytes at 00000100.
 const FILE: [u8; 260] = [
     0x7f, 0x45, 0x4c, 0x46, 0x01, 0x02, 0x01, 0x00, 0x00, 0x00, 0x00, 0x00, 0x00, 0x00, 0x00, 0x00,
     0x00, 0x02, 0x00, 0x5c, 0x00, 0x00, 0x00, 0x01, 0x00, 0x00, 0x01, 0x00, 0x00, 0x00, 0x00, 0x34,
@@ -30,8 +40,8 @@ const FILE: [u8; 260] = [
     0x00, 0x00, 0x00, 0x00,
 ];
 
-// The digests of the file, of its first 100 bytes without section headers, and of the file with four sections, with a
-// symbol table of 33 bytes and with a name behind its end.
+// The digests of the file with symbols and of that without, and of the file with four sections, with a symbol table of 33
+// bytes and with a name behind its end.
 const MAIN: &str = "e73aa67b0dca8479db681e4f0136045f4e646761e550baac077ab9db57c8ca12";
 
 const PLAIN: &str = "aee78df40702c1fb10e45d056ea3e56d0df95a9f1961bf96652f62163365026c";
@@ -88,15 +98,6 @@ fn host(alloc: Global, image: &[u8], schedule: &[u8], call: u64) -> Result<MemHo
     Ok(host)
 }
 
-// The file without section headers.
-fn plain() -> [u8; 260] {
-    let mut file = FILE;
-    file[35] = 0;
-    file[47] = 0;
-    file[49] = 0;
-    file
-}
-
 // The file with this byte at this place.
 fn changed(at: usize, byte: u8) -> [u8; 260]
     requires { at < 260 }
@@ -110,11 +111,9 @@ fn changed(at: usize, byte: u8) -> [u8; 260]
 #[test]
 fn profiles(rt: HostRuntime) -> Result<(), Fail> {
     let alloc = rt.alloc();
-    let whole = plain();
-    let hello: &[u8] = &whole[..100];
     let cases: [(&[u8], &str, &str, u8, &[u8], &[u8]); 7] = [
         (
-            hello,
+            &IMAGE,
             PLAIN,
             "a4\n",
             0,

@@ -1,13 +1,13 @@
 -- The counts of a core's lines, and of its items without a function, sum to its items.
-use Rattle.std.proofs.Common.{◌≡◌, ◌∙◌, ap, refl, sym, subst, ℕ, zero, suc, ◌+◌, ◌<◌, ◌≤◌, ◌/◌, ◌==◌, cond, Bool, true, false, List, [], ◌∷◌, Option, Some, None, length, add-zero, zero-add, add-one, arith}
+use Rattle.std.proofs.Common.{◌≡◌, ◌∙◌, ap, refl, sym, subst, ℕ, zero, suc, ◌+◌, ◌<◌, ◌≤◌, ◌/◌, ◌==◌, cond, Bool, true, false, List, [], ◌∷◌, Option, Some, None, length, add-zero, add-one, arith}
 use Rattle.std.proofs.lemmas.Bool.Decides.{nat_tests}
 use Rattle.std.proofs.lemmas.List.Sums.{sum_by-cons}
 use Rattle.std.proofs.lemmas.List.Sorted.{sum_by-IsPermutation}
-use Rattle.std.specs.Prelude.{IfSome, slice_get, sum_by, count_by, map, nat_lt}
+use Rattle.std.specs.Prelude.{IfSome, slice_get, sum_by, map, nat_lt}
 use Rattle.std.specs.List.{filter, range_with_len}
 use Rattle.std.specs.Option.{option_map}
 use Rattle.or_elf.specs.declared.symbols.Function.{Function}
-use Rattle.or_elf.specs.Symbols.{SymbolTable, is_function, symbol_start, function_at, functions_among, functions_of, symbol_table, symbols_in, symbols_of, has_sections, no_symbols, section_at, innermost, function_of}
+use Rattle.or_elf.specs.Symbols.{SymbolTable, is_function, symbol_start, function_at, functions_among, symbol_table, symbols_in, symbols_of, has_sections, no_symbols, section_at, innermost, function_of}
 use Rattle.or_prof.specs.declared.ranking.Line.{Line}
 use Rattle.or_prof.specs.Profile.{is_same, count_of}
 use Rattle.or_prof.specs.Text.{line_of, lines_of, AreRanked}
@@ -149,10 +149,10 @@ file_known : (bytes : List ℕ) (pc : ℕ) → IfSome (function_of (symbols_of b
 file_known bytes pc = known_by (innermost (symbols_of bytes).functions pc)
     (innermost_holds (λ (function : Function). how_often (symbols_of bytes).functions function.index ≡ 1) (symbols_of bytes).functions pc
     (λ k function found. once 0 (symbols_of bytes).functions k function (symbols_ascend bytes) found)) where
-  known_by : (found : Option Function) → IfSome found (λ (function : Function). how_often (symbols_of bytes).functions function.index ≡ 1)
-      → IfSome (option_map (λ (function : Function). function.index) found) (λ index. how_often (symbols_of bytes).functions index ≡ 1)
-  known_by None is = tt
-  known_by (Some function) is = is
+      known_by : (found : Option Function) → IfSome found (λ (function : Function). how_often (symbols_of bytes).functions function.index ≡ 1)
+          → IfSome (option_map (λ (function : Function). function.index) found) (λ index. how_often (symbols_of bytes).functions index ≡ 1)
+      known_by None is = tt
+      known_by (Some function) is = is
 
 pub lines_sum : (bytes items : List ℕ) (ranked : List Line) → AreRanked (lines_of (count_of (symbols_of bytes) items) (symbols_of bytes).functions) ranked
     → sum_by (λ (line : Line). line.count) ranked + count_of (symbols_of bytes) items None ≡ length items
