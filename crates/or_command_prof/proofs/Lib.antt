@@ -1,0 +1,6 @@
+pub mod Following
+pub mod Images
+pub mod Levels
+pub mod Profiled
+pub mod Statuses
+pub mod StepCounts

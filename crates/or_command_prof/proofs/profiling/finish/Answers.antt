@@ -1,0 +1,30 @@
+use Rattle.std.proofs.Common.{subst, ℕ, List, []}
+use Rattle.or_command.specs.Ends.{end_of}
+use Rattle.or_command.specs.Finishing.{WriteEnds}
+use Rattle.or_command.specs.Loads.{bytes_of}
+use Rattle.or_command_line.specs.Names.{recorded_names}
+use Rattle.or_command_replay.specs.Replay.{bytes_in}
+use Rattle.or_command_prof.proofs.Profiled.{checked_in, written_ends, symbols_end}
+use Rattle.or_command_prof.proofs.profiling.finish.Goals as goal
+
+pub returns-in-Ok-text-clause-outcome : goal.returns-in-Ok-text-clause-outcome
+returns-in-Ok-text-clause-outcome g c =
+    let names = recorded_names c.args.names.now in
+    let files = bytes_of c.args.files.now in
+    let bytes = bytes_in names files in
+    let read = c.recorded_in-read.result in
+    let told = c.recorded_in-read.ensures in
+    let checked = checked_in bytes read.image.now read.input.now read.recording.now c.in-Ok.run' c.recording_of-recording.result told.image told.input told.recording c.recording_of-recording.ensures c.in-Ok.ensures in
+    written_ends names files c.in-Ok-text.text.items (end_of c.write.result) (g.H.Host.state c.args.host.now) (g.H.Host.state c.write.new.host)
+    (c.in-Ok-text.ensures bytes told.image told.input checked)
+    (subst (λ (l : List ℕ). WriteEnds [] l (end_of c.write.result) (g.H.Host.state c.args.host.now) (g.H.Host.state c.write.new.host)) c.deref.ensures.value c.write.ensures.outcome)
+
+pub returns-in-Ok-clause-outcome : goal.returns-in-Ok-clause-outcome
+returns-in-Ok-clause-outcome g c =
+    let names = recorded_names c.args.names.now in
+    let files = bytes_of c.args.files.now in
+    let bytes = bytes_in names files in
+    let read = c.recorded_in-read.result in
+    let told = c.recorded_in-read.ensures in
+    let checked = checked_in bytes read.image.now read.input.now read.recording.now c.in-Ok.run' c.recording_of-recording.result told.image told.input told.recording c.recording_of-recording.ensures c.in-Ok.ensures in
+    symbols_end names files c.in-Err-text.fault (end_of c.refuse_symbols.result) (g.H.Host.state c.args.host.now) (c.in-Err-text.ensures bytes told.image told.input checked) c.refuse_symbols.ensures

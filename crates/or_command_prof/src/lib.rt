@@ -1,0 +1,11 @@
+//! The command `prof`.
+#![tactic(auto)]
+
+mod counting;
+pub mod laws;
+mod profiling;
+
+pub use profiling::prof;
+
+#[cfg(test)]
+mod tests;

@@ -1,0 +1,5 @@
+pub mod Added
+pub mod CoreTexts
+pub mod Counting
+pub mod Gets
+pub mod Sums

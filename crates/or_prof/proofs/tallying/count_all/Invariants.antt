@@ -1,0 +1,11 @@
+use Rattle.std.proofs.Common.{◌≡◌, ◌+◌, ◌++◌, ℕ, List, length, take}
+use Rattle.or_prof.specs.Profile.{AreCounts}
+use Rattle.or_prof.proofs.tallying.count_all.Given as goal
+
+abbrev pub invariant-loop-pc : goal.invariant-loop-pc
+invariant-loop-pc l = record {
+  counts : (items : List ℕ) → AreCounts l.initial.finder items l.initial.tally → AreCounts l.initial.finder (items ++ take l.pc-index l.trace) l.tally;
+  steps : l.tally.steps ≡ l.initial.tally.steps + l.pc-index;
+  size : length l.tally.by_index ≡ length l.initial.tally.by_index;
+  symbols : l.finder ≡ l.initial.finder;
+}

@@ -1,0 +1,4 @@
+pub mod Cache
+pub mod Profile
+pub mod Tally
+pub mod Text
