@@ -5,7 +5,7 @@ ghost use Rattle.or_words.specs.Settings.{Fits, ram_bytes};
 ghost use Rattle.or_elf.specs.Fault.{elf_fault};
 ghost use Rattle.or_command.specs.Leaves.{Silent};
 ghost use Rattle.or_command.specs.Ends.{end_of};
-ghost use Rattle.or_command.specs.Finishing.{WriteEnds, GoesOn, end_of_check};
+ghost use Rattle.or_command.specs.Finishing.{GoesOn, end_of_check};
 ghost use Rattle.or_command.specs.Outcomes.{OutcomeBy, LeavesAll};
 ghost use Rattle.or_command.specs.Loads.{bytes_of};
 ghost use Rattle.or_command_line.specs.Names.{recorded_names, AreRecorded};
@@ -15,22 +15,13 @@ ghost use Rattle.or_command_replay.specs.Replay.{bytes_in};
 ghost use Rattle.or_command_prof.specs.Prof.{prof_loads, symbols_check, ProfVerdict, ProfWrites, IsText};
 
 use crate::counting::profile_text;
-use or_command::{LoadStop, Outcome, Refusal, write_outputs};
+use or_command::{LoadStop, Outcome, Refusal};
 use or_command_image::{load_recorded, recorded_in};
 use or_command_line::Recorded;
-use or_command_replay::{Checked, Recording, check, refuse};
+use or_command_replay::{Recording, check, refuse, tell};
 use or_elf::{SymFault, Symbols};
 use or_host::Host;
 use std::alloc::Global;
-
-// The recording of a run whose checks have passed, without the board at its end.
-fn recording_of(run: Checked) -> Recording
-    ensures { result ≡ run.recording }
-{
-    let Checked { recording, board } = run;
-    let _ended = board;
-    recording
-}
 
 // The profile of a recorded run whose checks have passed, or the fault of its image's symbols.
 #[tactic(auto, using(crate::proofs::Images::sound_is_long))]
@@ -67,17 +58,6 @@ fn refuse_symbols(name: &str, fault: SymFault) -> Outcome<'_>
     })
 }
 
-// Writes the text.
-fn write<'a, H: Host>(text: &[u8], host: &mut H) -> Outcome<'a>
-    ensures outcome { WriteEnds [] text.now (end_of result) (H.state host.old) (H.state host.new) }
-    ensures silent { Silent (H.state host.old) (H.state host.new) }
-{
-    match write_outputs(host, &[], text) {
-        Ok(()) => Outcome::Done,
-        Err(name) => Outcome::Unwritten(name),
-    }
-}
-
 // How a profile of files that were loaded ends.
 fn finish<'a, H: Host>(
     alloc: Global,
@@ -92,9 +72,9 @@ fn finish<'a, H: Host>(
     let read = recorded_in(names.input, files);
     match check(alloc, read) {
         Ok(run) => {
-            let recording = recording_of(run);
+            let recording = run.into_recording();
             match text(alloc, &recording, read.image, read.input) {
-                Ok(text) => write(&text, host),
+                Ok(text) => tell(&text, host),
                 Err(fault) => refuse_symbols(names.image, fault),
             }
         }

@@ -14,10 +14,10 @@ returns-in-Ok-text-clause-outcome g c =
     let bytes = bytes_in names files in
     let read = c.recorded_in-read.result in
     let told = c.recorded_in-read.ensures in
-    let checked = checked_in bytes read.image.now read.input.now read.recording.now c.in-Ok.run' c.recording_of-recording.result told.image told.input told.recording c.recording_of-recording.ensures c.in-Ok.ensures in
-    written_ends names files c.in-Ok-text.text.items (end_of c.write.result) (g.H.Host.state c.args.host.now) (g.H.Host.state c.write.new.host)
+    let checked = checked_in bytes read.image.now read.input.now read.recording.now c.in-Ok.run' c.into_recording-recording.result told.image told.input told.recording c.into_recording-recording.ensures c.in-Ok.ensures in
+    written_ends names files c.in-Ok-text.text.items (end_of c.tell.result) (g.H.Host.state c.args.host.now) (g.H.Host.state c.tell.new.host)
     (c.in-Ok-text.ensures bytes told.image told.input checked)
-    (subst (λ (l : List ℕ). WriteEnds [] l (end_of c.write.result) (g.H.Host.state c.args.host.now) (g.H.Host.state c.write.new.host)) c.deref.ensures.value c.write.ensures.outcome)
+    (subst (λ (l : List ℕ). WriteEnds [] l (end_of c.tell.result) (g.H.Host.state c.args.host.now) (g.H.Host.state c.tell.new.host)) c.deref.ensures.value c.tell.ensures.outcome)
 
 pub returns-in-Ok-clause-outcome : goal.returns-in-Ok-clause-outcome
 returns-in-Ok-clause-outcome g c =
@@ -26,5 +26,5 @@ returns-in-Ok-clause-outcome g c =
     let bytes = bytes_in names files in
     let read = c.recorded_in-read.result in
     let told = c.recorded_in-read.ensures in
-    let checked = checked_in bytes read.image.now read.input.now read.recording.now c.in-Ok.run' c.recording_of-recording.result told.image told.input told.recording c.recording_of-recording.ensures c.in-Ok.ensures in
+    let checked = checked_in bytes read.image.now read.input.now read.recording.now c.in-Ok.run' c.into_recording-recording.result told.image told.input told.recording c.into_recording-recording.ensures c.in-Ok.ensures in
     symbols_end names files c.in-Err-text.fault (end_of c.refuse_symbols.result) (g.H.Host.state c.args.host.now) (c.in-Err-text.ensures bytes told.image told.input checked) c.refuse_symbols.ensures
