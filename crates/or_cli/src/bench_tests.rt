@@ -29,6 +29,10 @@ fn a_bench_counts_to_its_end(rt: HostRuntime) -> Result<(), Fail> {
         host.written(),
         b"bench 1 4 1000\nrun 00000FA0\n00000FA0\n".as_slice()
     );
+    // The cores meet in linked loads and conditional stores alone.
+    let race = words(alloc, "race i.elf - s")?;
+    assert_eq!(rt; top(&rt, alloc, &race, &mut host, &OpenGate), 0);
+    assert!(rt; host.written().ends_with(b"\n00000FA0\norrace 1\nraces 0\n"));
     Ok(())
 }
 

@@ -18,6 +18,25 @@ fn a_run_is_replayed(rt: HostRuntime) -> Result<(), Fail> {
     Ok(())
 }
 
+// What the commands on a recorded run write of one core that makes four steps.
+#[test]
+fn a_run_is_looked_at(rt: HostRuntime) -> Result<(), Fail> {
+    let alloc = rt.alloc();
+    let mut host = host(alloc, &IMAGE, 0)?;
+    host.put("q", b"turn 1\nmem 256 1\ngo\n")?;
+    let run = words(alloc, "run h.elf - s r --ram 1")?;
+    assert_eq!(rt; top(&rt, alloc, &run, &mut host, &OpenGate), 0);
+    for line in ["debug h.elf - s q", "race h.elf - s", "prof h.elf - s"] {
+        let words = words(alloc, line)?;
+        assert_eq!(rt; top(&rt, alloc, &words, &mut host, &OpenGate), 0);
+    }
+    assert!(rt;
+        host.written()
+            == b"Hat turn 1\n00000100 18609000\nend turn 4\norrace 1\nraces 0\norprof 1\ncore 0 steps 4\n4 ?\n".as_slice()
+    );
+    Ok(())
+}
+
 // A block of 65536 turns ends with its mark.
 #[test]
 fn blocks_have_marks(rt: HostRuntime) -> Result<(), Fail> {
