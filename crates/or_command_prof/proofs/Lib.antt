@@ -3,4 +3,5 @@ pub mod Images
 pub mod Levels
 pub mod Profiled
 pub mod Statuses
+pub mod Verdicts
 pub mod StepCounts

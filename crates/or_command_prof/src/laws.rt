@@ -1,11 +1,15 @@
-//! A law of the command `prof`, as the contract of a function that does nothing.
-ghost use Rattle.std.specs.Prelude.{◌≡◌, ◌<◌, ℕ, Some, length, slice_get};
+//! Laws of the command `prof`, as contracts of functions that do nothing.
+ghost use Rattle.std.specs.Prelude.{◌≡◌, ◌<◌, ℕ, List, Option, Some, length, slice_get};
 ghost use Rattle.or_model.specs.Core.{Core as CoreModel};
 ghost use Rattle.or_model.specs.Turn.{Board as BoardModel, replay};
 ghost use Rattle.or_replay.specs.Start.{start};
 ghost use Rattle.or_prof.specs.Profile.{items_of};
+ghost use Rattle.or_command.specs.Ends.{FailedCheck};
+ghost use Rattle.or_command_line.specs.Names.{recorded_names};
+ghost use Rattle.or_command_prof.specs.Prof.{ProfVerdict};
 ghost use Rattle.or_command_prof.specs.Traces.{traces};
 
+use or_command_line::Recorded;
 use or_words::Config;
 
 /// The items that the traces of a schedule have for a core are as many as the steps that the core has then made.
@@ -17,4 +21,12 @@ pub fn items_are_steps(config: &Config, image: &[u8], input: &[u8], turns: &[u8]
     let _ = image;
     let _ = input;
     let _ = turns;
+}
+
+/// The files of a recorded run have one verdict: one check that fails first, or none.
+pub fn files_have_one_verdict(names: &Recorded<'_>)
+    ensures { (files : List (List ℕ)) (found other : Option FailedCheck) → ProfVerdict (recorded_names names.now) files found
+        → ProfVerdict (recorded_names names.now) files other → found ≡ other }
+{
+    let _ = names;
 }

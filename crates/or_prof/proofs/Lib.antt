@@ -2,4 +2,5 @@ pub mod Added
 pub mod CoreTexts
 pub mod Counting
 pub mod Gets
+pub mod OneText
 pub mod Sums

@@ -20,7 +20,7 @@ pub struct Found {
 // The symbols, with the pcs that were looked up last; contracts see the symbols.
 #[derive(Drop)]
 pub struct Finder {
-    pub symbols: Symbols,
+    symbols: Symbols,
     found: Vec<Found>,
 }
 

@@ -1,0 +1,31 @@
+-- The checks of a recorded run and of its image's symbols find one thing.
+use Rattle.std.proofs.Common.{◌≡◌, ◌∙◌, refl, sym, ap, ℕ, List, Option, Some, None, inl, inr}
+use Rattle.or_command.specs.Ends.{FailedCheck}
+use Rattle.or_command_line.specs.Names.{Recorded}
+use Rattle.or_command_image.specs.Loaded.{RecordedBytes}
+use Rattle.or_elf.specs.declared.symbol_fault.SymFault.{SymFault}
+use Rattle.or_command_replay.proofs.Verdicts.{one_verdict as one_verdict_of_run}
+use Rattle.or_command_prof.specs.Prof.{symbols_check, HasSymbolFault, AreSymbolsRefused, BytesJudged}
+
+-- the symbols have a fault, or none
+not_both : (bytes : RecordedBytes) (fault : SymFault) → HasSymbolFault bytes None → HasSymbolFault bytes (Some fault) → ⊥
+not_both bytes fault none some = let e : None ≡ Some fault = sym none.fault_is ∙ some.fault_is in let b : ⊥ = cc in b
+
+same_symbols : (name : List ℕ) (bytes : RecordedBytes) (check other : FailedCheck) → AreSymbolsRefused name bytes check → AreSymbolsRefused name bytes other → Some check ≡ Some other
+same_symbols name bytes check other is also =
+    let e : Some is.fault ≡ Some also.fault = sym is.has.fault_is ∙ also.has.fault_is in
+    let same : is.fault ≡ also.fault = cc in
+    sym is.told ∙ (ap (symbols_check name) same ∙ also.told)
+
+pub one_verdict : (names : Recorded) (bytes : RecordedBytes) (found other : Option FailedCheck) → BytesJudged names bytes found → BytesJudged names bytes other → found ≡ other
+one_verdict names bytes None None is also = refl
+one_verdict names bytes None (Some check) is (inl refused) = one_verdict_of_run names bytes None (Some check) is.sound refused
+one_verdict names bytes None (Some check) is (inr refused) = absurd (not_both bytes refused.fault is refused.has)
+one_verdict names bytes (Some check) None (inl refused) also = one_verdict_of_run names bytes (Some check) None refused also.sound
+one_verdict names bytes (Some check) None (inr refused) also = absurd (not_both bytes refused.fault also refused.has)
+one_verdict names bytes (Some check) (Some other) (inl is) (inl also) = one_verdict_of_run names bytes (Some check) (Some other) is also
+one_verdict names bytes (Some check) (Some other) (inl is) (inr also) =
+    let e : Some check ≡ None = one_verdict_of_run names bytes (Some check) None is also.has.sound in absurd (let b : ⊥ = cc in b)
+one_verdict names bytes (Some check) (Some other) (inr is) (inl also) =
+    let e : Some other ≡ None = one_verdict_of_run names bytes (Some other) None also is.has.sound in absurd (let b : ⊥ = cc in b)
+one_verdict names bytes (Some check) (Some other) (inr is) (inr also) = same_symbols names.image bytes check other is also
