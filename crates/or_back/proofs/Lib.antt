@@ -1,1 +1,4 @@
 pub mod Keeping
+pub mod OtherTurns
+pub mod Scripts
+pub mod Vectors

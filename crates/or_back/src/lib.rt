@@ -3,10 +3,15 @@
 
 mod checkpoints;
 mod history;
+mod lines;
 mod moves;
+mod script;
 mod travel;
 
 pub use history::{Checkpoint, History};
+pub use lines::{BackCommand, back_command_at};
+pub use or_script::ScriptFault;
+pub use script::{check, commands};
 
 #[cfg(test)]
 mod tests;
