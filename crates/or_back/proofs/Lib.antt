@@ -2,3 +2,6 @@ pub mod Keeping
 pub mod OtherTurns
 pub mod Scripts
 pub mod Vectors
+pub mod Standing
+pub mod LastTurns
+pub mod Sessions

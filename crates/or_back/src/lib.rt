@@ -1,13 +1,17 @@
 //! A board that goes back on its turns, and the session of the backward debugger.
 #![tactic(auto)]
 
+mod answering;
+mod backward;
 mod checkpoints;
 mod history;
 mod lines;
 mod moves;
 mod script;
+mod stops;
 mod travel;
 
+pub use answering::session;
 pub use history::{Checkpoint, History};
 pub use lines::{BackCommand, back_command_at};
 pub use or_script::ScriptFault;

@@ -1,5 +1,5 @@
 //! A history that goes to a turn.
-ghost use Rattle.std.specs.Prelude.{◌≡◌, ◌≤◌, ◌<◌, ℕ, min, length, IfOk, IsOk, OnOk, OnErr, slice_index};
+ghost use Rattle.std.specs.Prelude.{◌≡◌, ◌≤◌, ◌<◌, ℕ, List, min, length, IfOk, IsOk, OnOk, OnErr, slice_index};
 ghost use Rattle.or_model.specs.Turn.{Board as BoardModel};
 ghost use Rattle.or_replay.specs.Board.{IsBoard};
 ghost use Rattle.or_debug.specs.Standing.{CanFollow};
@@ -24,7 +24,7 @@ impl History {
         every: u64,
     ) -> Result<History, NoMemory>
         requires { 0 < every }
-        ensures tells { IfOk result (λ history. (start : BoardModel) → IsBoard board.cores board.bus start → CanFollow start turns.items → Tells history start) }
+        ensures tells { IfOk result (λ history. (start : BoardModel) → IsBoard board.cores board.bus start → CanFollow start turns.items → Tells history start turns.items) }
         ensures at { IfOk result (λ history. (history.at ≡ 0) × (history.turns ≡ turns)) }
         ensures config { IfOk result (λ history. history.board.config ≡ board.config) }
     {
@@ -56,14 +56,18 @@ impl History {
         self.made
     }
 
-    // Puts a copy of an earlier board in place of the board.
+    // Puts a copy of an earlier board in place of a board that stands behind more turns than these.
     fn go_back(&mut self, to: usize) -> Result<(), NoMemory>
         requires { to ≤ length self.old.turns.items }
-        ensures tells { (start : BoardModel) → Tells self.old start → Tells self.new start }
+        ensures tells { (start : BoardModel) (turns : List ℕ) → Tells self.old start turns → Tells self.new start turns }
         ensures ok { OnOk result (self.new.at ≤ to) }
         ensures err { OnErr result ((self.new.at ≡ self.old.at) × (self.new.made ≡ self.old.made)) }
         ensures turns { self.new.turns ≡ self.old.turns }
+        ensures forward { self.old.at ≤ to → IsOk result }
     {
+        if self.at <= to {
+            return Ok(());
+        }
         let Some(i) = latest(&self.kept, to) else {
             let board = self.first.copy(self.alloc)?;
             self.board = board;
@@ -80,7 +84,7 @@ impl History {
     fn go_on(&mut self, to: usize)
         requires order { self.old.at ≤ to }
         requires within { to ≤ length self.old.turns.items }
-        ensures tells { (start : BoardModel) → Tells self.old start → Tells self.new start }
+        ensures tells { (start : BoardModel) (turns : List ℕ) → Tells self.old start turns → Tells self.new start turns }
         ensures at { self.new.at ≡ to }
         ensures turns { self.new.turns ≡ self.old.turns }
     {
@@ -103,7 +107,7 @@ impl History {
     ///
     /// Errors: NoMemory, which only going back can answer; the history then stands where it stood.
     pub fn to(&mut self, n: u64) -> Result<u64, NoMemory>
-        ensures tells { (start : BoardModel) → Tells self.old start → Tells self.new start }
+        ensures tells { (start : BoardModel) (turns : List ℕ) → Tells self.old start turns → Tells self.new start turns }
         ensures ok { IfOk result (λ at. (at ≡ min n (length self.old.turns.items)) × (self.new.at ≡ at)) }
         ensures err { OnErr result ((self.new.at ≡ self.old.at) × (self.new.made ≡ self.old.made)) }
         ensures turns { self.new.turns ≡ self.old.turns }
@@ -111,9 +115,7 @@ impl History {
     {
         let many = self.turns.len();
         let to = if n < many as u64 { n as usize } else { many };
-        if to < self.at {
-            self.go_back(to)?;
-        }
+        self.go_back(to)?;
         self.go_on(to);
         Ok(to as u64)
     }

@@ -4,10 +4,11 @@ use Rattle.or_replay.specs.Board.{BoardState, IsBoard}
 use Rattle.or_back.proofs.history.History.go_back.Goals as goal
 
 pub returns-in_err-board-clause-tells : goal.returns-in_err-board-clause-tells
-returns-in_err-board-clause-tells c = λ start t. record { follows = t.follows; first = c.copy.ensures.same start t.first; here = t.here; kept = t.kept }
+returns-in_err-board-clause-tells c = λ start turns t. record { turns_are = t.turns_are; follows = t.follows; first = c.copy.ensures.same start t.first; here = t.here; kept = t.kept }
 
 pub returns-in_default-clause-tells : goal.returns-in_default-clause-tells
-returns-in_default-clause-tells c = λ start t. record {
+returns-in_default-clause-tells c = λ start turns t. record {
+  turns_are = t.turns_are;
   follows = t.follows;
   first = c.copy.ensures.same start t.first;
   here = record {

@@ -7,6 +7,7 @@ use Rattle.or_back.proofs.history.History.open.Goals as goal
 
 pub returns-clause-tells : goal.returns-clause-tells
 returns-clause-tells c = λ start is can. record {
+  turns_are = refl;
   follows = can;
   first = subst (λ (b : BoardState). IsBoard b.cores b.bus start) (sym c.in_ok-first.ensures.copy) (c.copy.ensures.same start is);
   here = record { now = start; reached = refl; is = c.copy.ensures.same start is; within = omega arith };
