@@ -12,10 +12,9 @@ mod stops;
 mod travel;
 
 pub use answering::session;
-pub use history::{Checkpoint, History};
-pub use lines::{BackCommand, back_command_at};
+pub use history::History;
 pub use or_script::ScriptFault;
-pub use script::{check, commands};
+pub use script::check;
 
 #[cfg(test)]
 mod tests;

@@ -96,12 +96,10 @@ fn plain(line: Result<Command, LineFault>) -> Result<BackCommand, LineFault>
     }
 }
 
-/// The command of a line behind others that give so many points.
-///
-/// Errors: BadCommand where the line has none of the forms, else OutOfRange where a number is out of its range or the line
-/// gives a 17th breakpoint or watchpoint.
+// The command of a line behind others that give so many points: BadCommand where the line has none of the forms, else
+// OutOfRange where a number is out of its range or the line gives a 17th breakpoint or watchpoint.
 #[tactic(auto, unfolding(crate::specs::Lines::back_command_at))]
-pub fn back_command_at(
+pub(crate) fn back_command_at(
     config: &Config,
     points: Points,
     line: &[u8],

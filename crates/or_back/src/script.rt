@@ -34,11 +34,9 @@ pub fn check(config: &Config, script: &[u8]) -> Result<(), ScriptFault>
     Ok(())
 }
 
-/// The commands of a script of at most 1 MiB.
-///
-/// Errors: the fault that `check` answers; NoMemory.
+// The commands of a script of at most 1 MiB: the fault that `check` answers, or NoMemory, where there are none.
 #[tactic(auto, using(crate::proofs::Scripts::lines), unfolding(crate::specs::Script::back_script_of))]
-pub fn commands(
+pub(crate) fn commands(
     alloc: Global,
     config: &Config,
     script: &[u8],

@@ -1,5 +1,5 @@
 //! A history that goes to a turn.
-ghost use Rattle.std.specs.Prelude.{◌≡◌, ◌≤◌, ◌<◌, ℕ, List, min, length, IfOk, IsOk, OnOk, OnErr, slice_index};
+ghost use Rattle.std.specs.Prelude.{◌≡◌, ◌≤◌, ◌<◌, ◌+◌, ◌-◌, ◌^◌, ℕ, List, min, length, IfOk, IsOk, OnOk, OnErr, slice_index};
 ghost use Rattle.or_model.specs.Turn.{Board as BoardModel};
 ghost use Rattle.or_replay.specs.Board.{IsBoard};
 ghost use Rattle.or_debug.specs.Standing.{CanFollow};
@@ -27,6 +27,7 @@ impl History {
         ensures tells { IfOk result (λ history. (start : BoardModel) → IsBoard board.cores board.bus start → CanFollow start turns.items → Tells history start turns.items) }
         ensures at { IfOk result (λ history. (history.at ≡ 0) × (history.turns ≡ turns)) }
         ensures config { IfOk result (λ history. history.board.config ≡ board.config) }
+        ensures made { IfOk result (λ history. history.made ≡ 0) }
     {
         let first = board.copy(alloc)?;
         Ok(History {
@@ -61,9 +62,10 @@ impl History {
         requires { to ≤ length self.old.turns.items }
         ensures tells { (start : BoardModel) (turns : List ℕ) → Tells self.old start turns → Tells self.new start turns }
         ensures ok { OnOk result (self.new.at ≤ to) }
-        ensures err { OnErr result ((self.new.at ≡ self.old.at) × (self.new.made ≡ self.old.made)) }
+        ensures err { OnErr result (self.new.at ≡ self.old.at) }
+        ensures made { self.new.made ≡ self.old.made }
         ensures turns { self.new.turns ≡ self.old.turns }
-        ensures forward { self.old.at ≤ to → IsOk result }
+        ensures forward { self.old.at ≤ to → IsOk result × (self.new.at ≡ self.old.at) }
     {
         if self.at <= to {
             return Ok(());
@@ -86,6 +88,7 @@ impl History {
         requires within { to ≤ length self.old.turns.items }
         ensures tells { (start : BoardModel) (turns : List ℕ) → Tells self.old start turns → Tells self.new start turns }
         ensures at { self.new.at ≡ to }
+        ensures made { self.new.made ≡ min (self.old.made + (to - self.old.at)) (2 ^ 64 - 1) }
         ensures turns { self.new.turns ≡ self.old.turns }
     {
         let at = self.at;
@@ -111,7 +114,9 @@ impl History {
         ensures ok { IfOk result (λ at. (at ≡ min n (length self.old.turns.items)) × (self.new.at ≡ at)) }
         ensures err { OnErr result ((self.new.at ≡ self.old.at) × (self.new.made ≡ self.old.made)) }
         ensures turns { self.new.turns ≡ self.old.turns }
-        ensures forward { self.old.at ≤ n → IsOk result }
+        ensures forward { self.old.at ≤ n → IsOk result × (self.new.made ≡ min (self.old.made + (self.new.at - self.old.at)) (2 ^ 64 - 1)) }
+        // Going back makes no more turns than lie before the turn that it goes to.
+        ensures most { self.new.made ≤ self.old.made + self.new.at }
     {
         let many = self.turns.len();
         let to = if n < many as u64 { n as usize } else { many };
