@@ -32,7 +32,8 @@ pub struct Debugger {
     pub(crate) last: HeapCircularBuffer<MadeTurn>,
 }
 
-fn pc_of(board: &Board, core: u8) -> u32
+/// The pc of a core, 0 where the board has no such core.
+pub fn pc_of(board: &Board, core: u8) -> u32
     ensures { result ≡ pc_of (slice_get board.now.cores core) }
 {
     match board.cores().get(usize::from(core)) {
@@ -64,8 +65,8 @@ fn make_turn(
     made
 }
 
-// Each watchpoint sees RAM as it is.
-fn look_again(watches: &mut Vec<Watchpoint>, board: &mut Board)
+/// Each watchpoint sees RAM as it is.
+pub fn look_again(watches: &mut Vec<Watchpoint>, board: &mut Board)
     ensures watches { (now : BoardModel) → IsBoard board.old.cores board.old.bus now → watches.new.items ≡ map (seen now.world.ram) watches.old.items }
     ensures board { (now : BoardModel) → IsBoard board.old.cores board.old.bus now → IsBoard board.new.cores board.new.bus now }
     ensures config { board.new.config ≡ board.old.config }
@@ -73,8 +74,8 @@ fn look_again(watches: &mut Vec<Watchpoint>, board: &mut Board)
     look_at_all(watches.as_mut_slice(), board);
 }
 
-// The lines of what a turn hits, breakpoints first. Each watchpoint has then seen RAM as it is.
-fn append_hits(
+/// Appends the lines of what a turn hits, breakpoints first. Each watchpoint has then seen RAM as it is.
+pub fn append_hits(
     breaks: &Vec<Breakpoint>,
     watches: &mut Vec<Watchpoint>,
     made: MadeTurn,
@@ -93,8 +94,8 @@ fn append_hits(
     Ok(())
 }
 
-// A line of a word and the number of turns so far.
-fn append_turn(word: &[u8], turn: usize, text: &mut Vec<u8>) -> Result<(), AllocError>
+/// Appends a line of a word and the number of turns so far.
+pub fn append_turn(word: &[u8], turn: usize, text: &mut Vec<u8>) -> Result<(), AllocError>
     ensures { OnOk result (text.new.items ≡ text.old.items ++ (word.now ++ decimal turn ++ codes "\n")) }
 {
     text.extend_from_slice(word)?;

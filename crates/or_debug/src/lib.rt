@@ -8,8 +8,11 @@ mod shown;
 mod turns;
 
 pub use answering::session;
+pub use debugger::{append_hits, append_turn, look_again, pc_of};
 pub use or_script::{ScriptFault, check};
+pub use points::{Breakpoint, Watchpoint, look};
 pub use shown::{append_lines, append_memory, append_registers};
+pub use turns::{MadeTurn, append_made};
 
 #[cfg(test)]
 mod tests;

@@ -97,8 +97,8 @@ fn append_change(
     }
 }
 
-// The word of a watchpoint, as RAM has it now.
-pub(crate) fn look(point: Watchpoint, board: &mut Board) -> Watchpoint
+/// A watchpoint with the word that RAM has now.
+pub fn look(point: Watchpoint, board: &mut Board) -> Watchpoint
     ensures point { (now : BoardModel) → IsBoard board.old.cores board.old.bus now → result ≡ seen now.world.ram point }
     ensures board { (now : BoardModel) → IsBoard board.old.cores board.old.bus now → IsBoard board.new.cores board.new.bus now }
     ensures config { board.new.config ≡ board.old.config }

@@ -22,7 +22,8 @@ fn letter(core: u8) -> u8
     b'a'.wrapping_add(core)
 }
 
-fn append_made(made: MadeTurn, text: &mut Vec<u8>) -> Result<(), AllocError>
+/// Appends the line of a turn that was made.
+pub fn append_made(made: MadeTurn, text: &mut Vec<u8>) -> Result<(), AllocError>
     ensures { OnOk result (text.new.items ≡ text.old.items ++ made_line made) }
 {
     append_decimal(made.turn, text)?;

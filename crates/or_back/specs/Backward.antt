@@ -1,0 +1,76 @@
+-- How the backward debugger stands, and what it answers.
+use Rattle.std.specs.Prelude.{◌≡◌, ℕ, ◌+◌, min, List, ◌++◌, Some, None, drop, length, map, Result, Ok, Err}
+use Rattle.circular_buffer.specs.Buffer.{buffer}
+use Rattle.or_script.specs.declared.command.LineFault.{LineFault}
+use Rattle.or_script.specs.declared.fault.ScriptFault.{ScriptFault}
+use Rattle.or_script.specs.declared.fault.ScriptFault.TheVariants.{BadCommand, OutOfRange, NoMemory}
+use Rattle.or_model.specs.Turn.{Board}
+use Rattle.or_debug.specs.declared.debugger.Debugger.{Debugger}
+use Rattle.or_debug.specs.Turns.{after, turns_made, last_of}
+use Rattle.or_debug.specs.Hits.{ram_in, hit_lines}
+use Rattle.or_debug.specs.Session.{State, at_line}
+use Rattle.or_debug.specs.Standing.{addresses, seen}
+use Rattle.or_back.specs.declared.history.History.{History}
+use Rattle.or_back.specs.declared.stops.Stops.{Stops}
+use Rattle.or_back.specs.declared.lines.BackCommand.{BackCommand}
+use Rattle.or_back.specs.Script.{back_fault_of}
+use Rattle.or_back.specs.Session.{back_state_after, back_answer, back_session_from}
+use Rattle.or_back.specs.Tells.{Tells}
+
+-- the debugger that has followed the first so many turns, with these points
+abbrev pub debugger_at : Board → List ℕ → ℕ → Stops → Debugger
+debugger_at start turns n stops = record { turn = n; breaks = stops.breaks; watches = stops.watches; last = buffer (last_of 64 (turns_made start turns n)) 64 }
+
+-- the state at a turn, with these points
+abbrev pub state_at : ℕ → Stops → State
+state_at n stops = record { turn = n; breaks = stops.breaks.items; watches = addresses stops.watches.items }
+
+-- the history is of these turns, and each watchpoint has the word of RAM where it stands
+pub record StandsBack (history : History) (stops : Stops) (start : Board) (turns : List ℕ) : Type 0 where
+  pub tells : Tells history start turns
+  pub watches : map (seen (ram_in (after start turns history.at))) stops.watches.items ≡ stops.watches.items
+
+-- the next turn was made, with the lines of what it hits
+pub record IsNext (start : Board) (turns : List ℕ) (old : History) (old_stops : Stops) (before : List ℕ) (new : History) (new_stops : Stops) (later : List ℕ) : Type 0 where
+  pub stands : StandsBack new new_stops start turns
+  pub state : state_at new.at new_stops ≡ record { turn = old.at + 1; breaks = old_stops.breaks.items; watches = addresses old_stops.watches.items }
+  pub text : later ≡ before ++ hit_lines start turns old_stops.breaks.items (addresses old_stops.watches.items) old.at
+
+-- the history went to a turn, or to the last where there are fewer
+pub record IsGone (start : Board) (turns : List ℕ) (turn : ℕ) (old_stops : Stops) (new : History) (new_stops : Stops) (text : List ℕ) : Type 0 where
+  pub stands : StandsBack new new_stops start turns
+  pub state : state_at new.at new_stops ≡ state_at (min turn (length turns)) old_stops
+  pub text_is : text ≡ at_line (min turn (length turns))
+
+-- a command was answered
+pub record IsBackAnswered (start : Board) (turns : List ℕ) (old : History) (old_stops : Stops) (command : BackCommand) (text : List ℕ) (new : History) (new_stops : Stops) : Type 0 where
+  pub stands : StandsBack new new_stops start turns
+  pub state : state_at new.at new_stops ≡ back_state_after start turns (state_at old.at old_stops) command
+  pub text_is : text ≡ back_answer start turns (state_at old.at old_stops) command
+
+-- and its text was appended
+pub record IsAppended (start : Board) (turns : List ℕ) (old : History) (old_stops : Stops) (command : BackCommand) (before later : List ℕ) (new : History) (new_stops : Stops) : Type 0 where
+  pub stands : StandsBack new new_stops start turns
+  pub state : state_at new.at new_stops ≡ back_state_after start turns (state_at old.at old_stops) command
+  pub text : later ≡ before ++ back_answer start turns (state_at old.at old_stops) command
+
+-- the commands up to a place were answered
+pub record IsBackUpTo (start : Board) (turns : List ℕ) (first : State) (commands : List BackCommand) (place : ℕ) (before later : List ℕ) (history : History) (stops : Stops) : Type 0 where
+  pub stands : StandsBack history stops start turns
+  pub front : List ℕ
+  pub text : later ≡ before ++ front
+  pub parts : back_session_from start turns first commands ≡ front ++ back_session_from start turns (state_at history.at stops) (drop place commands)
+
+-- the front of a text was appended
+pub record IsFront (whole before later : List ℕ) : Type 0 where
+  pub front : List ℕ
+  pub rest : List ℕ
+  pub parts : whole ≡ front ++ rest
+  pub text : later ≡ before ++ front
+
+-- the fault of the script exactly where it has one; memory may run out where it has none
+abbrev pub AnswersBackScript : {X : Type 0} → Result X ScriptFault → Result (List BackCommand) (LineFault × ℕ) → Type 0
+AnswersBackScript (Ok done) script = back_fault_of script ≡ None
+AnswersBackScript (Err (BadCommand line)) script = back_fault_of script ≡ Some (BadCommand line)
+AnswersBackScript (Err (OutOfRange line)) script = back_fault_of script ≡ Some (OutOfRange line)
+AnswersBackScript (Err NoMemory) script = back_fault_of script ≡ None

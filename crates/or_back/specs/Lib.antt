@@ -1,0 +1,5 @@
+pub mod Tells
+pub mod Lines
+pub mod Script
+pub mod Session
+pub mod Backward

@@ -1,0 +1,67 @@
+//! Copies of boards on the way.
+ghost use Rattle.std.specs.Prelude.{◌≡◌, ◌<◌, ◌≤◌, ◌⊎◌, ℕ, List, IfOk, IfSome, Some, IsTrue, length, slice_get, remove};
+ghost use Rattle.or_model.specs.Turn.{Board as BoardModel};
+ghost use Rattle.or_replay.specs.Board.{IsBoard};
+ghost use Rattle.or_debug.specs.Standing.{IsAfter};
+ghost use Rattle.or_back.specs.Tells.{AllStand};
+ghost use Rattle.or_back.specs.declared.history.Checkpoint.{Checkpoint as Kept};
+
+use crate::history::Checkpoint;
+use or_replay::Board;
+use or_words::NoMemory;
+use std::alloc::Global;
+
+/// How many copies are kept beside that of the first board.
+const MOST_KEPT: usize = 3;
+
+// The place of the latest copy that stands behind no more turns than these.
+pub(crate) fn latest(kept: &[Checkpoint], turn: usize) -> Option<usize>
+    ensures { IfSome result (λ i. (one : Kept) × (slice_get kept.now i ≡ Some one) × (one.turn ≤ turn)) }
+{
+    let mut found = None;
+    let mut best = 0;
+    for (i, one) in kept.iter().enumerate() {
+        if one.turn <= turn && best < one.turn {
+            found = Some(i);
+            best = one.turn;
+        }
+    }
+    found
+}
+
+// Gives up the oldest copy where there are three.
+fn make_room(kept: &mut Vec<Checkpoint>)
+    ensures { (kept.new.items ≡ kept.old.items) ⊎ (kept.new.items ≡ remove kept.old.items 0) }
+{
+    if kept.len() >= MOST_KEPT {
+        let _ = kept.remove(0);
+    }
+}
+
+// Keeps a copy of the board behind these turns, in place of the oldest where three are kept. Without memory it keeps none.
+pub(crate) fn keep(alloc: Global, kept: &mut Vec<Checkpoint>, board: &mut Board, turn: usize)
+    ensures same { (now : BoardModel) → IsBoard board.old.cores board.old.bus now → IsBoard board.new.cores board.new.bus now }
+    ensures stand { (start : BoardModel) (turns : List ℕ) → IsAfter start turns turn board.old.cores board.old.bus → AllStand start turns kept.old.items → AllStand start turns kept.new.items }
+{
+    make_room(kept);
+    let Ok(copy) = board.copy(alloc) else {
+        return;
+    };
+    let _ = kept.push(Checkpoint { turn, board: copy });
+}
+
+// A copy of a board that is kept, with the number of its turns.
+pub(crate) fn copy_of(
+    alloc: Global,
+    kept: &mut Vec<Checkpoint>,
+    i: usize,
+) -> Result<(usize, Board), NoMemory>
+    requires { i < length kept.old.items }
+    ensures stand { (start : BoardModel) (turns : List ℕ) → AllStand start turns kept.old.items → AllStand start turns kept.new.items }
+    ensures copied { IfOk result (λ r. (start : BoardModel) (turns : List ℕ) → AllStand start turns kept.old.items → IsAfter start turns r.0 r.1.cores r.1.bus) }
+    ensures turn { IfOk result (λ r. (one : Kept) → slice_get kept.old.items i ≡ Some one → r.0 ≡ one.turn) }
+{
+    let one = &mut kept[i];
+    let board = one.board.copy(alloc)?;
+    Ok((one.turn, board))
+}

@@ -1,0 +1,9 @@
+//! The command `back`.
+#![tactic(auto)]
+
+mod going_back;
+
+pub use going_back::back;
+
+#[cfg(test)]
+mod tests;
