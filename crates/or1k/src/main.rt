@@ -32,6 +32,10 @@ or1k debug IMAGE INPUT SCHED SCRIPT
     Checks a recorded run as replay does, and follows it as the lines of SCRIPT say: go, turn N, break C ADDR, watch ADDR,
     regs C, mem ADDR N, lines C, last N. Writes what they show to standard output.
 
+or1k back IMAGE INPUT SCHED SCRIPT [--every N]
+    Goes over a recorded run forward and back: SCRIPT has the lines of debug, and back N (N turns back) and to N (to turn N).
+    --every N    turns between two copies of the board, 1 to 536870912; 1048576 where left out
+
 or1k race IMAGE INPUT SCHED
     Follows a recorded run, and writes to standard output the words of RAM that two cores come to with nothing that orders
     them, with the turns and cores of two such accesses.

@@ -2,7 +2,7 @@
 use Rattle.std.specs.Prelude.{ℕ, List, Bool, true, false, Option, Some, None, if◌then◌else◌}
 use Rattle.or_host.specs.HostState.{HostState}
 use Rattle.or_command_line.specs.Command.{Shown, command_of}
-use Rattle.or_command_line.specs.Command.Shown.{run, replay, asm, dis, debug, gen, bench, race, prof}
+use Rattle.or_command_line.specs.Command.Shown.{run, replay, asm, dis, debug, gen, bench, back, race, prof}
 use Rattle.or_command.specs.Lines.{usage_line}
 use Rattle.or_command.specs.Said.{SaidLine}
 use Rattle.or_command.specs.Outcomes.{LeavesAll}
@@ -12,6 +12,7 @@ use Rattle.or_command_debug.specs.Debug.{debug_loads, DebugVerdict, DebugWrites}
 use Rattle.or_command_source.specs.Assembly.{asm_loads, asm_check, AsmWrites}
 use Rattle.or_command_source.specs.Listing.{dis_loads, dis_check, DisWrites, DisLacks}
 use Rattle.or_command_source.specs.Generation.{gen_loads, gen_check, GenWrites}
+use Rattle.or_command_back.specs.Back.{back_loads, BackVerdict, BackWrites}
 use Rattle.or_command_race.specs.Race.{race_loads, RaceVerdict, RaceWrites}
 use Rattle.or_command_prof.specs.Prof.{prof_loads, ProfVerdict, ProfWrites}
 use Rattle.or_command_run.specs.Run.{run_loads, run_check, RunWrites}
@@ -23,27 +24,6 @@ is_threaded (run names config) = true
 is_threaded (bench workload schedule) = true
 is_threaded _ = false
 
--- the commands that the top call does
-abbrev pub is_done : Shown → Bool
-is_done (run names config) = true
-is_done (replay files report) = true
-is_done (asm source image) = true
-is_done (dis image) = true
-is_done (debug files script) = true
-is_done (gen workload source) = true
-is_done (bench workload schedule) = true
-is_done (race files) = true
-is_done (prof files) = true
-is_done _ = false
-
-abbrev pub done_command : Option Shown → Option Shown
-done_command None = None
-done_command (Some command) = if is_done command then Some command else None
-
--- the command that the words are, among those that the top call does
-abbrev pub top_command : List (List ℕ) → Option Shown
-top_command words = done_command (command_of words)
-
 abbrev pub of_threads : Option Shown → Option Shown
 of_threads None = None
 of_threads (Some command) = if is_threaded command then Some command else None
@@ -52,12 +32,12 @@ abbrev pub of_one_thread : Option Shown → Option Shown
 of_one_thread None = None
 of_one_thread (Some command) = if is_threaded command then None else Some command
 
--- that command, where it works cores on threads, and where it does not
+-- the command that the words are, where it works cores on threads, and where it does not
 abbrev pub threaded_command : List (List ℕ) → Option Shown
-threaded_command words = of_threads (top_command words)
+threaded_command words = of_threads (command_of words)
 
 abbrev pub lone_command : List (List ℕ) → Option Shown
-lone_command words = of_one_thread (top_command words)
+lone_command words = of_one_thread (command_of words)
 
 -- words that are no command: that is said, and nothing else happens
 pub record IsUsage (old new : HostState) : Type 0 where
@@ -73,9 +53,9 @@ CommandEnds (dis image) status old new = Answers (dis_loads image) (dis_check im
 CommandEnds (debug files script) status old new = AnswersBy (debug_loads files script) (DebugVerdict files script) (DebugWrites files) LeavesAll status old new
 CommandEnds (gen workload source) status old new = Answers gen_loads gen_check (GenWrites workload source) LeavesAll status old new
 CommandEnds (bench workload schedule) status old new = Answers bench_loads (bench_check workload) (BenchWrites workload schedule) LeavesAll status old new
+CommandEnds (back files script every) status old new = AnswersBy (back_loads files script) (BackVerdict files script) (BackWrites files) LeavesAll status old new
 CommandEnds (race files) status old new = AnswersBy (race_loads files) (RaceVerdict files) (RaceWrites files) LeavesAll status old new
 CommandEnds (prof files) status old new = AnswersBy (prof_loads files) (ProfVerdict files) (ProfWrites files) LeavesAll status old new
-CommandEnds _ status old new = ⊥
 
 -- where no fault came, the files decide the status, or memory ran out
 abbrev pub IsComplete : Shown → ℕ → HostState → HostState → Type 0
@@ -86,6 +66,6 @@ IsComplete (dis image) status old new = IsDecided (dis_loads image) (dis_check i
 IsComplete (debug files script) status old new = IsDecidedBy (debug_loads files script) (DebugVerdict files script) (DebugWrites files) LeavesAll status old new
 IsComplete (gen workload source) status old new = IsDecided gen_loads gen_check (GenWrites workload source) LeavesAll status old new
 IsComplete (bench workload schedule) status old new = IsDecided bench_loads (bench_check workload) (BenchWrites workload schedule) LeavesAll status old new
+IsComplete (back files script every) status old new = IsDecidedBy (back_loads files script) (BackVerdict files script) (BackWrites files) LeavesAll status old new
 IsComplete (race files) status old new = IsDecidedBy (race_loads files) (RaceVerdict files) (RaceWrites files) LeavesAll status old new
 IsComplete (prof files) status old new = IsDecidedBy (prof_loads files) (ProfVerdict files) (ProfWrites files) LeavesAll status old new
-IsComplete _ status old new = ⊥

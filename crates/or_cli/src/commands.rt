@@ -1,6 +1,7 @@
 //! The top call.
 ghost use Rattle.std.specs.Prelude.{◌≡◌, ◌≢◌, ◌↔◌, ◌⊎◌, ℕ, None, IfSome};
 ghost use Rattle.or_command_line.specs.Words.{texts};
+ghost use Rattle.or_command_line.specs.Command.{command_of};
 ghost use Rattle.or_words.specs.Settings.{Fits};
 ghost use Rattle.or_command_line.specs.Names.{run_names, recorded_names, AreWritten, AreRecorded, IsReport};
 ghost use Rattle.or_command.specs.Outcomes.{LeavesAll};
@@ -13,10 +14,13 @@ ghost use Rattle.or_command_line.specs.Workloads.{FitsWorkload};
 ghost use Rattle.or_command_debug.specs.Debug.{debug_loads, DebugVerdict, DebugWrites};
 ghost use Rattle.or_command_prof.specs.Prof.{prof_loads, ProfVerdict, ProfWrites};
 ghost use Rattle.or_command_race.specs.Race.{race_loads, RaceVerdict, RaceWrites};
-ghost use Rattle.or_cli.specs.Top.{top_command, threaded_command, lone_command, IsUsage, CommandEnds, IsComplete};
+ghost use Rattle.or_command_back.specs.Back.{back_loads, BackVerdict, BackWrites};
+ghost use Rattle.or_command_line.specs.Settings.{FitsEvery};
+ghost use Rattle.or_cli.specs.Top.{threaded_command, lone_command, IsUsage, CommandEnds, IsComplete};
 
 use or_board::Gate;
 use or_command::{conclude, say_usage};
+use or_command_back::back;
 use or_command_debug::debug;
 use or_command_line::{Command, Recorded, Run, Workload, parse};
 use or_command_prof::prof;
@@ -98,6 +102,27 @@ fn debug_command<H: Host>(alloc: Global, names: &Recorded<'_>, script: &str, hos
     conclude(host, outcome)
 }
 
+// Goes over a recorded run, forward and back, and says how that ended.
+fn back_command<H: Host>(
+    alloc: Global,
+    names: &Recorded<'_>,
+    script: &str,
+    every: u32,
+    host: &mut H,
+) -> u8
+    requires names { AreRecorded (recorded_names names.now) }
+    requires script { IsFileName script.now }
+    requires every { FitsEvery every }
+    ensures ends { AnswersBy (back_loads (recorded_names names.now) script.now) (BackVerdict (recorded_names names.now) script.now) (BackWrites (recorded_names names.now)) LeavesAll
+        result (H.state host.old) (H.state host.new) }
+    ensures complete { IsDecidedBy (back_loads (recorded_names names.now) script.now) (BackVerdict (recorded_names names.now) script.now) (BackWrites (recorded_names names.now)) LeavesAll
+        result (H.state host.old) (H.state host.new) }
+    ensures command { result ≢ 2 }
+{
+    let outcome = back(alloc, names, script, every, host);
+    conclude(host, outcome)
+}
+
 // Reports the races of a recorded run, and says how that ended.
 fn race_command<H: Host>(alloc: Global, names: &Recorded<'_>, host: &mut H) -> u8
     requires names { AreRecorded (recorded_names names.now) }
@@ -170,6 +195,13 @@ pub fn top_alone<H: Host>(alloc: Global, words: &[String], host: &mut H) -> u8
         Some(Command::Dis { image }) => dis(alloc, image, host),
         Some(Command::Debug { files, script }) => debug_command(alloc, &files, script, host),
         Some(Command::Gen { workload, source }) => generate(alloc, &workload, source, host),
+        Some(
+            Command::Back {
+                files,
+                script,
+                every,
+            },
+        ) => back_command(alloc, &files, script, every, host),
         Some(Command::Race { files }) => race_command(alloc, &files, host),
         Some(Command::Prof { files }) => prof_command(alloc, &files, host),
         _ => refuse_words(host),
@@ -188,10 +220,10 @@ pub fn top<R: Threads + Wait + Sync, H: Host, G: Gate + Sync>(
     host: &mut H,
     gate: &G,
 ) -> u8
-    ensures usage { (result ≡ 2) ↔ (top_command (texts words.now) ≡ None) }
-    ensures usage_line { top_command (texts words.now) ≡ None → IsUsage (H.state host.old) (H.state host.new) }
-    ensures command { IfSome (top_command (texts words.now)) (λ command. CommandEnds command result (H.state host.old) (H.state host.new)) }
-    ensures complete { IfSome (top_command (texts words.now)) (λ command. IsComplete command result (H.state host.old) (H.state host.new)) }
+    ensures usage { (result ≡ 2) ↔ (command_of (texts words.now) ≡ None) }
+    ensures usage_line { command_of (texts words.now) ≡ None → IsUsage (H.state host.old) (H.state host.new) }
+    ensures command { IfSome (command_of (texts words.now)) (λ command. CommandEnds command result (H.state host.old) (H.state host.new)) }
+    ensures complete { IfSome (command_of (texts words.now)) (λ command. IsComplete command result (H.state host.old) (H.state host.new)) }
 {
     match parse(words) {
         Some(Command::Run(_) | Command::Bench { .. }) => top_run(rt, alloc, words, host, gate),

@@ -24,16 +24,26 @@ fn a_run_is_looked_at(rt: HostRuntime) -> Result<(), Fail> {
     let alloc = rt.alloc();
     let mut host = host(alloc, &IMAGE, 0)?;
     host.put("q", b"turn 1\nmem 256 1\ngo\n")?;
+    host.put("b", b"turn 4\nback 2\nlast 2\ngo\n")?;
     let run = words(alloc, "run h.elf - s r --ram 1")?;
     assert_eq!(rt; top(&rt, alloc, &run, &mut host, &OpenGate), 0);
-    for line in ["debug h.elf - s q", "race h.elf - s", "prof h.elf - s"] {
+    let cases: [(&str, &[u8]); 4] = [
+        (
+            "debug h.elf - s q",
+            b"at turn 1\n00000100 18609000\nend turn 4\n",
+        ),
+        (
+            "back h.elf - s b --every 3",
+            b"at turn 4\nat turn 2\n1 a 00000104\n2 a 00000108\nend turn 4\n",
+        ),
+        ("race h.elf - s", b"orrace 1\nraces 0\n"),
+        ("prof h.elf - s", b"orprof 1\ncore 0 steps 4\n4 ?\n"),
+    ];
+    for (line, text) in cases {
         let words = words(alloc, line)?;
         assert_eq!(rt; top(&rt, alloc, &words, &mut host, &OpenGate), 0);
+        assert!(rt; host.written().ends_with(text));
     }
-    assert!(rt;
-        host.written()
-            == b"Hat turn 1\n00000100 18609000\nend turn 4\norrace 1\nraces 0\norprof 1\ncore 0 steps 4\n4 ?\n".as_slice()
-    );
     Ok(())
 }
 

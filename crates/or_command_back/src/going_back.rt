@@ -7,7 +7,7 @@ ghost use Rattle.or_replay.specs.Start.{start};
 ghost use Rattle.or_replay.specs.Board.{IsBoard};
 ghost use Rattle.or_command.specs.Leaves.{Silent};
 ghost use Rattle.or_command.specs.Ends.{end_of};
-ghost use Rattle.or_command.specs.Finishing.{WriteEnds, GoesOn};
+ghost use Rattle.or_command.specs.Finishing.{GoesOn};
 ghost use Rattle.or_command.specs.Outcomes.{OutcomeBy, LeavesAll};
 ghost use Rattle.or_command.specs.Loads.{bytes_of};
 ghost use Rattle.or_command_line.specs.Names.{recorded_names, AreRecorded};
@@ -19,24 +19,15 @@ ghost use Rattle.or_command_debug.specs.Debug.{script_bytes};
 ghost use Rattle.or_command_back.specs.Back.{back_loads, BackVerdict, BackWrites, IsBackText};
 
 use or_back::{History, ScriptFault, session};
-use or_command::{LoadStop, Outcome, write_outputs};
+use or_command::{LoadStop, Outcome};
 use or_command_debug::{load_debugged, refuse_script, script_in};
 use or_command_image::recorded_in;
 use or_command_line::Recorded;
-use or_command_replay::{Checked, Recording, check, refuse};
+use or_command_replay::{Recording, check, refuse, tell};
 use or_host::Host;
 use or_replay::Board;
 use or_words::{Config, NoMemory};
 use std::alloc::Global;
-
-// The recording of a run whose checks have passed, without the board at its end.
-fn recording_of(run: Checked) -> Recording
-    ensures { result ≡ run.recording }
-{
-    let Checked { recording, board } = run;
-    let _ended = board;
-    recording
-}
 
 // The board before its first turn. The image has no fault, so only memory keeps it from being opened.
 fn board_of(alloc: Global, config: &Config, image: &[u8], input: &[u8]) -> Result<Board, NoMemory>
@@ -86,17 +77,6 @@ fn text(
     }
 }
 
-// Writes the text.
-fn write<'a, H: Host>(text: &[u8], host: &mut H) -> Outcome<'a>
-    ensures outcome { WriteEnds [] text.now (end_of result) (H.state host.old) (H.state host.new) }
-    ensures silent { Silent (H.state host.old) (H.state host.new) }
-{
-    match write_outputs(host, &[], text) {
-        Ok(()) => Outcome::Done,
-        Err(name) => Outcome::Unwritten(name),
-    }
-}
-
 // How a session on files that were loaded ends.
 fn finish<'a, H: Host>(
     alloc: Global,
@@ -115,10 +95,10 @@ fn finish<'a, H: Host>(
     let read = recorded_in(names.input, files);
     match check(alloc, read) {
         Ok(run) => {
-            let recording = recording_of(run);
+            let recording = run.into_recording();
             let lines = script_in(names.input, files);
             match text(alloc, recording, read.image, read.input, lines, every) {
-                Ok(text) => write(&text, host),
+                Ok(text) => tell(&text, host),
                 Err(fault) => refuse_script(script, fault),
             }
         }

@@ -16,11 +16,11 @@ returns-in-Ok-text-clause-outcome g c =
     let bytes = bytes_in names files in
     let read = c.recorded_in-read.result in
     let told = c.recorded_in-read.ensures in
-    let checked = checked_in bytes read.image.now read.input.now read.recording.now c.in-Ok.run' c.recording_of-recording.result told.image told.input told.recording c.recording_of-recording.ensures c.in-Ok.ensures in
+    let checked = checked_in bytes read.image.now read.input.now read.recording.now c.in-Ok.run' c.into_recording-recording.result told.image told.input told.recording c.into_recording-recording.ensures c.in-Ok.ensures in
     let debugged = c.in-Ok-text.ensures bytes told.image told.input checked in
-    written_ends names c.args.script.now files c.in-Ok-text.text.items (end_of c.write.result) (g.H.Host.state c.args.host.now) (g.H.Host.state c.write.new.host)
+    written_ends names c.args.script.now files c.in-Ok-text.text.items (end_of c.tell.result) (g.H.Host.state c.args.host.now) (g.H.Host.state c.tell.new.host)
     (subst (λ (l : List ℕ). IsGoneOver bytes l c.in-Ok-text.text.items) c.script_in-lines.ensures debugged)
-    (subst (λ (l : List ℕ). WriteEnds [] l (end_of c.write.result) (g.H.Host.state c.args.host.now) (g.H.Host.state c.write.new.host)) c.deref.ensures.value c.write.ensures.outcome)
+    (subst (λ (l : List ℕ). WriteEnds [] l (end_of c.tell.result) (g.H.Host.state c.args.host.now) (g.H.Host.state c.tell.new.host)) c.deref.ensures.value c.tell.ensures.outcome)
 
 pub returns-in-Err-text-clause-outcome : goal.returns-in-Err-text-clause-outcome
 returns-in-Err-text-clause-outcome g c =
@@ -29,7 +29,7 @@ returns-in-Err-text-clause-outcome g c =
     let bytes = bytes_in names files in
     let read = c.recorded_in-read.result in
     let told = c.recorded_in-read.ensures in
-    let checked = checked_in bytes read.image.now read.input.now read.recording.now c.in-Ok.run' c.recording_of-recording.result told.image told.input told.recording c.recording_of-recording.ensures c.in-Ok.ensures in
+    let checked = checked_in bytes read.image.now read.input.now read.recording.now c.in-Ok.run' c.into_recording-recording.result told.image told.input told.recording c.into_recording-recording.ensures c.in-Ok.ensures in
     let faulted = c.in-Err-text.ensures bytes told.image told.input checked in
     script_ends names c.args.script.now files c.in-Err-text.fault (end_of c.refuse_script.result) (g.H.Host.state c.args.host.now)
     (subst (λ (l : List ℕ). IsBackText bytes l (Err c.in-Err-text.fault)) c.script_in-lines.ensures faulted) c.refuse_script.ensures
