@@ -1,6 +1,6 @@
 -- From the parts of a bench to its outcome.
-use Rattle.std.proofs.Common.{◌≡◌, ◌≢◌, ℕ, List, Some, None, sym, ap, arith}
-use Rattle.std.specs.Prelude.{Option, Result, Ok, Err}
+use Rattle.std.proofs.Common.{◌≡◌, ◌≢◌, ℕ, List, Some, arith}
+use Rattle.std.specs.Prelude.{Result, Ok, Err}
 use Rattle.or_words.specs.Settings.{ram_bytes}
 use Rattle.or_asm_read.specs.declared.fault.Fault.{Fault}
 use Rattle.or_asm.specs.Source.{source_of}

@@ -1,5 +1,5 @@
 -- How long a workload's source can be.
-use Rattle.std.proofs.Common.{◌≡◌, ℕ, zero, suc, ◌+◌, ◌*◌, ◌/◌, ◌%◌, ◌^◌, ◌≤◌, Bool, true, false, cond, eqb, List, [], ◌∷◌, ◌++◌, length, length-append, codes, lit≤, arith}
+use Rattle.std.proofs.Common.{ℕ, zero, suc, ◌+◌, ◌*◌, ◌/◌, ◌%◌, ◌^◌, ◌≤◌, Bool, true, false, cond, eqb, List, [], ◌∷◌, ◌++◌, length, length-append, codes, lit≤, arith}
 use Rattle.std.specs.Fmt.{digits, digits_onto, digit_glyph}
 use Rattle.or_text.specs.Hexadecimal.{hexadecimal}
 use Rattle.or_gen.specs.Workload.{next_number, delay_text, delays_text, lines_text, set_up_lines, wait_lines, count_lines, print_lines, end_lines, upper_text, lower_text, number_text, workload}
