@@ -31,7 +31,8 @@ pub(crate) fn latest(kept: &[Checkpoint], turn: usize) -> Option<usize>
 
 // Gives up the oldest copy where there are three.
 fn make_room(kept: &mut Vec<Checkpoint>)
-    ensures { (kept.new.items ≡ kept.old.items) ⊎ (kept.new.items ≡ remove kept.old.items 0) }
+    ensures same { (kept.new.items ≡ kept.old.items) ⊎ (kept.new.items ≡ remove kept.old.items 0) }
+    ensures room { length kept.old.items ≤ 3 → length kept.new.items < 3 }
 {
     if kept.len() >= MOST_KEPT {
         let _ = kept.remove(0);
@@ -42,6 +43,7 @@ fn make_room(kept: &mut Vec<Checkpoint>)
 pub(crate) fn keep(alloc: Global, kept: &mut Vec<Checkpoint>, board: &mut Board, turn: usize)
     ensures same { (now : BoardModel) → IsBoard board.old.cores board.old.bus now → IsBoard board.new.cores board.new.bus now }
     ensures stand { (start : BoardModel) (turns : List ℕ) → IsAfter start turns turn board.old.cores board.old.bus → AllStand start turns kept.old.items → AllStand start turns kept.new.items }
+    ensures few { length kept.old.items ≤ 3 → length kept.new.items ≤ 3 }
 {
     make_room(kept);
     let Ok(copy) = board.copy(alloc) else {
@@ -59,6 +61,7 @@ pub(crate) fn copy_of(
     requires { i < length kept.old.items }
     ensures stand { (start : BoardModel) (turns : List ℕ) → AllStand start turns kept.old.items → AllStand start turns kept.new.items }
     ensures copied { IfOk result (λ r. (start : BoardModel) (turns : List ℕ) → AllStand start turns kept.old.items → IsAfter start turns r.0 r.1.cores r.1.bus) }
+    ensures many { length kept.new.items ≡ length kept.old.items }
     ensures turn { IfOk result (λ r. (one : Kept) → slice_get kept.old.items i ≡ Some one → r.0 ≡ one.turn) }
 {
     let one = &mut kept[i];

@@ -25,4 +25,5 @@ pub struct History {
     pub(crate) made: u64,
     pub(crate) ghost within: { at ≤ length turns.items },
     pub(crate) ghost steps: { 0 < every },
+    pub(crate) ghost few: { length kept.items ≤ 3 },
 }

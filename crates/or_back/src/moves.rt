@@ -39,6 +39,7 @@ fn step(
     ensures here { (start : BoardModel) → CanFollow start turns.now → IsAfter start turns.now at board.old.cores board.old.bus → IsAfter start turns.now (at + 1) board.new.cores board.new.bus }
     ensures kept { (start : BoardModel) → CanFollow start turns.now → IsAfter start turns.now at board.old.cores board.old.bus
         → AllStand start turns.now kept.old.items → AllStand start turns.now kept.new.items }
+    ensures few { length kept.old.items ≤ 3 → length kept.new.items ≤ 3 }
 {
     make_one(board, turns, at);
     if (at as u64 + 1) % every != 0 || is_kept(kept, at + 1) {
@@ -63,6 +64,7 @@ pub(crate) fn forward(
     ensures here { (start : BoardModel) → CanFollow start turns.now → IsAfter start turns.now at board.old.cores board.old.bus → IsAfter start turns.now to board.new.cores board.new.bus }
     ensures kept { (start : BoardModel) → CanFollow start turns.now → IsAfter start turns.now at board.old.cores board.old.bus
         → AllStand start turns.now kept.old.items → AllStand start turns.now kept.new.items }
+    ensures few { length kept.old.items ≤ 3 → length kept.new.items ≤ 3 }
 {
     for i in at..to {
         step(alloc, board, kept, turns, every, i);

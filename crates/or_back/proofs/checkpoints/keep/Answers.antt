@@ -8,9 +8,9 @@ pub returns-clause-stand : goal.returns-clause-stand
 returns-clause-stand c = λ start turns here all.
     let P : Checkpoint → Type 0 = λ one. IsAfter start turns one.turn one.board.cores one.board.bus in
     all_pushed P (is_ok c.push.result) c.make_room.new.kept.items c.push.new.self.items _ c.push.ensures.items
-    (all_room P c.args.kept.now.items c.make_room.new.kept.items c.make_room.ensures all)
+    (all_room P c.args.kept.now.items c.make_room.new.kept.items c.make_room.ensures.same all)
     (copy_after start turns c.args.turn c.args.board.now c.copy.new.self c.in-Ok.copy c.copy.ensures.same c.in-Ok.ensures.copy here)
 
 pub returns-in_default-clause-stand : goal.returns-in_default-clause-stand
 returns-in_default-clause-stand c = λ start turns here all.
-    all_room (λ (one : Checkpoint). IsAfter start turns one.turn one.board.cores one.board.bus) c.args.kept.now.items c.make_room.new.kept.items c.make_room.ensures all
+    all_room (λ (one : Checkpoint). IsAfter start turns one.turn one.board.cores one.board.bus) c.args.kept.now.items c.make_room.new.kept.items c.make_room.ensures.same all
