@@ -158,8 +158,8 @@ fn refuse_words<H: Host>(host: &mut H) -> u8
     2
 }
 
-/// Does what the words ask of the outside where that works cores on threads, `run` and `bench`, and answers the status as `top` does. All other
-/// words are no command of this call. It waits.
+/// Does what the words ask of the outside where that works cores on threads, `run` and `bench`, and answers the status as `top`
+/// does. All other words are no command of this call. It waits.
 pub fn top_run<R: Threads + Wait + Sync, H: Host, G: Gate + Sync>(
     rt: &R,
     alloc: Global,

@@ -1,6 +1,7 @@
 //! The turn at the bus: threads take turns at one bus, and there is one schedule that has each caller's turns.
 #![tactic(auto)]
 
+mod crossing;
 mod laws;
 mod plays;
 mod rule;
@@ -8,6 +9,7 @@ mod shared;
 mod unit;
 mod view;
 
+pub use crossing::may_cross_threads;
 pub use laws::{equal_entries_leave_the_core, turns_leave_other_cores};
 pub use plays::TurnRule;
 pub use rule::each_part_holds;
