@@ -2,8 +2,11 @@
 ghost use Rattle.std.specs.Prelude.{MatchResult};
 ghost use Rattle.or_host.specs.Calls.{IsName};
 ghost use Rattle.or_command.specs.Leaves.{Silent};
-ghost use Rattle.or_command.specs.Writes.{files_of, AreFiles, FileWritten, FileStopped, FilesWritten, FilesStopped, AllWritten, WriteStopped};
+ghost use Rattle.or_command.specs.Writes.{files_of, AreFiles, FileWritten, FileStopped, FilesWritten, FilesStopped};
+ghost use Rattle.or_command.specs.Ends.{end_of};
+ghost use Rattle.or_command.specs.Finishing.{WriteEnds};
 
+use crate::Outcome;
 use or_host::{Failed, Host};
 
 /// A file that a command writes: its name, and the text that it is to hold.
@@ -13,30 +16,27 @@ pub struct Output<'n, 't> {
     pub text: &'t [u8],
 }
 
-/// Writes files in order, and then the console to standard output where it is not empty.
-///
-/// Errors: the name whose write failed, `-` for standard output. The files before it are whole.
+/// Writes files in order, and then the console to standard output where it is not empty, and answers how the command ends:
+/// Done, or Unwritten with the name whose write failed, `-` for standard output. The files before it are whole.
 pub fn write_outputs<'n, H: Host>(
     host: &mut H,
     files: &[Output<'n, '_>],
     console: &[u8],
-) -> Result<(), &'n str>
+) -> Outcome<'n>
     requires { AreFiles (files_of files.now) }
-    ensures outputs { MatchResult result
-        (λ _. AllWritten (files_of files.now) console.now (H.state host.old) (H.state host.new))
-        (λ name. WriteStopped (files_of files.now) console.now name.now (H.state host.old) (H.state host.new)) }
+    ensures outcome { WriteEnds (files_of files.now) console.now (end_of result) (H.state host.old) (H.state host.new) }
     ensures silent { Silent (H.state host.old) (H.state host.new) }
 {
     match write_files(host, files) {
         Ok(()) => {}
-        Err(name) => return Err(name),
+        Err(name) => return Outcome::Unwritten(name),
     }
     if console.is_empty() {
-        return Ok(());
+        return Outcome::Done;
     }
     match host.out(console) {
-        Ok(()) => Ok(()),
-        Err(_) => Err("-"),
+        Ok(()) => Outcome::Done,
+        Err(_) => Outcome::Unwritten("-"),
     }
 }
 

@@ -56,10 +56,7 @@ fn write<'a, H: Host>(report: &'a str, texts: &ReplayTexts, host: &mut H) -> Out
         name: report,
         text: texts.report.as_slice(),
     };
-    match write_outputs(host, &[output], texts.console.as_slice()) {
-        Ok(()) => Outcome::Done,
-        Err(name) => Outcome::Unwritten(name),
-    }
+    write_outputs(host, &[output], texts.console.as_slice())
 }
 
 // How a replay of files that were loaded ends.

@@ -12,8 +12,5 @@ pub fn tell<'a, H: Host>(text: &[u8], host: &mut H) -> Outcome<'a>
     ensures outcome { WriteEnds [] text.now (end_of result) (H.state host.old) (H.state host.new) }
     ensures silent { Silent (H.state host.old) (H.state host.new) }
 {
-    match write_outputs(host, &[], text) {
-        Ok(()) => Outcome::Done,
-        Err(name) => Outcome::Unwritten(name),
-    }
+    write_outputs(host, &[], text)
 }

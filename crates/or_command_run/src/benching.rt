@@ -135,10 +135,7 @@ fn write<'a, H: Host>(schedule: &'a str, texts: &BenchTexts, host: &mut H) -> Ou
         name: schedule,
         text: texts.recording.as_slice(),
     };
-    match write_outputs(host, &[recording], texts.told.as_slice()) {
-        Ok(()) => Outcome::Done,
-        Err(name) => Outcome::Unwritten(name),
-    }
+    write_outputs(host, &[recording], texts.told.as_slice())
 }
 
 // How a bench of this image of the workload ends.

@@ -143,10 +143,7 @@ fn write<'a, H: Host>(words: &Run<'a>, texts: &RunTexts, host: &mut H) -> Outcom
         name: words.report,
         text: texts.report.as_slice(),
     };
-    match write_outputs(host, &[recording, report], texts.console.as_slice()) {
-        Ok(()) => Outcome::Done,
-        Err(name) => Outcome::Unwritten(name),
-    }
+    write_outputs(host, &[recording, report], texts.console.as_slice())
 }
 
 /// Runs an image: loads it and the input, works each core on a thread of its own until it has stopped, and writes the recording, the report and

@@ -27,8 +27,5 @@ pub(crate) fn write_file<'a, H: Host>(name: &'a str, text: &[u8], host: &mut H) 
     ensures silent { Silent (H.state host.old) (H.state host.new) }
 {
     let output = Output { name, text };
-    match write_outputs(host, &[output], b"") {
-        Ok(()) => Outcome::Done,
-        Err(name) => Outcome::Unwritten(name),
-    }
+    write_outputs(host, &[output], b"")
 }
