@@ -1,10 +1,8 @@
 //! The command `back`.
-ghost use Rattle.std.specs.Prelude.{◌≡◌, ◌≤◌, [], length, IfOk};
+ghost use Rattle.std.specs.Prelude.{◌≡◌, ◌≤◌, [], length};
 ghost use Rattle.or_host.specs.HostState.{HostState};
 ghost use Rattle.or_host.specs.Calls.{IsName};
 ghost use Rattle.or_words.specs.Settings.{Fits};
-ghost use Rattle.or_replay.specs.Start.{start};
-ghost use Rattle.or_replay.specs.Board.{IsBoard};
 ghost use Rattle.or_command.specs.Leaves.{Silent};
 ghost use Rattle.or_command.specs.Ends.{end_of};
 ghost use Rattle.or_command.specs.Finishing.{GoesOn};
@@ -23,29 +21,12 @@ use or_command::{LoadStop, Outcome};
 use or_command_debug::{load_debugged, refuse_script, script_in};
 use or_command_image::recorded_in;
 use or_command_line::Recorded;
-use or_command_replay::{Recording, check, refuse, tell};
+use or_command_replay::{Recording, check, open_board, refuse, tell};
 use or_host::Host;
-use or_replay::Board;
-use or_words::{Config, NoMemory};
 use std::alloc::Global;
 
-// The board before its first turn. The image has no fault, so only memory keeps it from being opened.
-fn board_of(alloc: Global, config: &Config, image: &[u8], input: &[u8]) -> Result<Board, NoMemory>
-    requires fits { Fits config.now }
-    requires image { length image.now ≤ 67108864 }
-    ensures board { IfOk result (λ board. IsBoard board.cores board.bus (start config.now image.now input.now)) }
-    ensures config { IfOk result (λ board. board.config ≡ config.now) }
-{
-    let Ok(bytes) = Vec::from_slice(alloc, input) else {
-        return Err(NoMemory);
-    };
-    match Board::open(alloc, config, image, bytes) {
-        Ok(board) => Ok(board),
-        Err(_) => Err(NoMemory),
-    }
-}
-
-// The session of a script on a recorded run, with copies of its boards behind each so many turns.
+// The session of a script on a recorded run, with copies of its boards behind each so many turns. The image has no fault, so
+// only memory keeps its board from being opened.
 fn text(
     alloc: Global,
     recording: Recording,
@@ -62,7 +43,7 @@ fn text(
         → IsChecked bytes.image bytes.input bytes.recording recording.head recording.turns.items recording.marks.items
         → IsBackText bytes script.now result }
 {
-    let Ok(board) = board_of(alloc, &recording.head.config, image, input) else {
+    let Ok(board) = open_board(alloc, &recording.head.config, image, input) else {
         return Err(ScriptFault::NoMemory);
     };
     match History::open(alloc, board, recording.turns, u64::from(every)) {

@@ -18,10 +18,9 @@ use crate::scripts::{load_debugged, refuse_script, script_in};
 use or_command::{LoadStop, Outcome};
 use or_command_image::recorded_in;
 use or_command_line::Recorded;
-use or_command_replay::{Recording, check, refuse, tell};
+use or_command_replay::{Recording, check, open_board, refuse, tell};
 use or_debug::{ScriptFault, session};
 use or_host::Host;
-use or_replay::Board;
 use std::alloc::Global;
 
 // The session of a script on a recorded run. The image has no fault, so only memory keeps its board from being opened.
@@ -39,10 +38,7 @@ fn text(
         → IsChecked bytes.image bytes.input bytes.recording recording.now.head recording.now.turns.items recording.now.marks.items
         → IsText bytes script.now result }
 {
-    let Ok(bytes) = Vec::from_slice(alloc, input) else {
-        return Err(ScriptFault::NoMemory);
-    };
-    match Board::open(alloc, &recording.head.config, image, bytes) {
+    match open_board(alloc, &recording.head.config, image, input) {
         Err(_) => Err(ScriptFault::NoMemory),
         Ok(mut board) => {
             let mut out = Vec::new(alloc);

@@ -164,9 +164,10 @@ pub fn open_board(
 ) -> Result<Board, OpenFault>
     requires limit { length image.now ≤ 67108864 }
     requires fits { Fits config.now }
-    ensures { MatchResult result
+    ensures board { MatchResult result
         (λ board. (elf_fault image.now (ram_bytes config.now) ≡ None) × IsBoard board.cores board.bus (start config.now image.now input.now))
         (λ fault. IsOpenFault image.now (ram_bytes config.now) fault) }
+    ensures config { IfOk result (λ board. board.config ≡ config.now) }
 {
     let Ok(bytes) = Vec::from_slice(alloc, input) else {
         return Err(OpenFault::NoMemory);
