@@ -71,13 +71,12 @@ fn sessions(rt: HostRuntime) -> Result<(), Fail> {
     let alloc = rt.alloc();
     let script: &[u8] = b"turn 1\nmem 256 1\ngo\n";
     let text: &[u8] = b"at turn 1\n00000100 18609000\nend turn 4\n";
-    let cases: [(&str, &[u8], u64, u8, &[u8], &[u8]); 8] = [
-        ("a4\n", script, 0, 0, text, b""),
-        ("a4\n", b"", 0, 0, b"", b""),
+    let cases: [(&str, &[u8], u8, &[u8], &[u8]); 6] = [
+        ("a4\n", script, 0, text, b""),
+        ("a4\n", b"", 0, b"", b""),
         (
             "a4\n",
             b"regs 1\n",
-            0,
             10,
             b"",
             b"or1k: script q fault 2 line 1\n",
@@ -85,7 +84,6 @@ fn sessions(rt: HostRuntime) -> Result<(), Fail> {
         (
             "a4\n",
             b"go\nfrob\n",
-            0,
             10,
             b"",
             b"or1k: script q fault 1 line 2\n",
@@ -93,7 +91,6 @@ fn sessions(rt: HostRuntime) -> Result<(), Fail> {
         (
             "a5\n",
             b"frob\n",
-            0,
             4,
             b"",
             b"or1k: schedule s turn 4 stopped\n",
@@ -101,31 +98,45 @@ fn sessions(rt: HostRuntime) -> Result<(), Fail> {
         (
             "a3\n",
             script,
-            0,
             4,
             b"",
             b"or1k: schedule s core 0 running\n",
         ),
-        ("a4\n", script, 3, 5, b"", b"or1k: read q\n"),
-        (
-            "a4\n",
-            script,
-            4,
-            6,
-            b"at turn 1\n00000100 ",
-            b"or1k: write -\n",
-        ),
     ];
-    for (runs, lines, call, status, written, said) in cases {
+    for (runs, lines, status, written, said) in cases {
         let schedule = recording(alloc, NO_INPUT_DIGEST, runs)?;
-        let mut host = host(alloc, &schedule, lines, call)?;
+        let mut host = host(alloc, &schedule, lines, 0)?;
         assert_eq!(rt; debug_silently(alloc, &mut host), status);
         assert!(rt; host.written() == written);
         assert!(rt; host.said() == said);
     }
+    Ok(())
+}
+
+// Each call of the host fails in turn: the four loads, and what is written.
+#[test]
+fn each_call_fails_in_turn(rt: HostRuntime) -> Result<(), Fail> {
+    let alloc = rt.alloc();
+    let script: &[u8] = b"turn 1\nmem 256 1\ngo\n";
     let schedule = recording(alloc, LETTER_DIGEST, "a4\n")?;
-    let mut host = host(alloc, &schedule, script, 0)?;
-    assert_eq!(rt; debug_with_input(alloc, &mut host), 0);
-    assert!(rt; host.written() == text);
+    let cases: [(u64, u8, &[u8], &[u8]); 6] = [
+        (
+            0,
+            0,
+            b"at turn 1\n00000100 18609000\nend turn 4\n",
+            b"",
+        ),
+        (1, 5, b"", b"or1k: read h.elf\n"),
+        (2, 5, b"", b"or1k: read i\n"),
+        (3, 5, b"", b"or1k: read s\n"),
+        (4, 5, b"", b"or1k: read q\n"),
+        (5, 6, b"at turn 1\n00000100 ", b"or1k: write -\n"),
+    ];
+    for (call, status, written, said) in cases {
+        let mut host = host(alloc, &schedule, script, call)?;
+        assert_eq!(rt; debug_with_input(alloc, &mut host), status);
+        assert!(rt; host.written() == written);
+        assert!(rt; host.said() == said);
+    }
     Ok(())
 }
