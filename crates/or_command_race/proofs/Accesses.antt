@@ -13,7 +13,7 @@ use Rattle.or_model.proofs.Steps.{step-adds}
 use Rattle.or_bus.specs.declared.access.Access.{Access}
 use Rattle.or_bus.specs.declared.access.AccessKind.{AccessKind}
 use Rattle.or_bus.specs.Last.{access_of}
-use Rattle.or_core.specs.Access.{reach, is_made, access_at, access_by, access_of_word, word_by, step_access, turn_access}
+use Rattle.or_core.specs.Access.{memory_operand, is_made, access_at, access_by, access_of_word, word_by, step_access, turn_access}
 use Rattle.or_replay.specs.Watching.{board_access}
 use Rattle.or_command_race.specs.Following.{AreNumbered}
 
@@ -98,8 +98,8 @@ access_at-core core world kind (At pa cached) a is = made-core (in_ram world pa 
 access_of_word-core : (core : Core) (world : World) (word : ℕ) (a : Access) → access_of_word core world word ≡ Some a → a.core ≡ core.number
 unfolding access_of_word
 access_of_word-core core world word a is =
-    let insn = some_and_then (λ insn. option_and_then (access_by core world) (reach insn)) (decode_of word) a is in
-    let by = some_and_then (access_by core world) (reach insn.0) a insn.1 in
+    let insn = some_and_then (λ insn. option_and_then (access_by core world) (memory_operand insn)) (decode_of word) a is in
+    let by = some_and_then (access_by core world) (memory_operand insn.0) a insn.1 in
     access_at-core core world by.0.kind _ a by.1
 
 step_access-core : (core : Core) (world : World) (a : Access) → step_access core world ≡ Some a → a.core ≡ core.number

@@ -16,23 +16,23 @@ use Rattle.or_bus.specs.declared.BusError.{BusError}
 use Rattle.or_bus.specs.State.{BusState}
 use Rattle.or_bus.specs.Represents.{Represents}
 use Rattle.or_bus.specs.Answers.{IsAnswer}
-use Rattle.or_core.specs.Access.{reach, access_of_word, word_fetched}
+use Rattle.or_core.specs.Access.{memory_operand, access_of_word, word_fetched}
 
 -- an instruction that may not stand where it does, or not in its mode, goes nowhere in memory
-pub reach-misplaced : (core : Core) (insn : Insn) → is_misplaced core insn ≡ true → reach insn ≡ None
+pub misplaced_none : (core : Core) (insn : Insn) → is_misplaced core insn ≡ true → memory_operand insn ≡ None
 unfolding is_misplaced
-reach-misplaced core (Lwa d a i) bad = absurd (search rules)
-reach-misplaced core (Lwz d a i) bad = absurd (search rules)
-reach-misplaced core (Lws d a i) bad = absurd (search rules)
-reach-misplaced core (Lbz d a i) bad = absurd (search rules)
-reach-misplaced core (Lbs d a i) bad = absurd (search rules)
-reach-misplaced core (Lhz d a i) bad = absurd (search rules)
-reach-misplaced core (Lhs d a i) bad = absurd (search rules)
-reach-misplaced core (Swa a b i) bad = absurd (search rules)
-reach-misplaced core (Sw a b i) bad = absurd (search rules)
-reach-misplaced core (Sb a b i) bad = absurd (search rules)
-reach-misplaced core (Sh a b i) bad = absurd (search rules)
-reach-misplaced core _ bad = refl
+misplaced_none core (Lwa d a i) bad = absurd (search rules)
+misplaced_none core (Lwz d a i) bad = absurd (search rules)
+misplaced_none core (Lws d a i) bad = absurd (search rules)
+misplaced_none core (Lbz d a i) bad = absurd (search rules)
+misplaced_none core (Lbs d a i) bad = absurd (search rules)
+misplaced_none core (Lhz d a i) bad = absurd (search rules)
+misplaced_none core (Lhs d a i) bad = absurd (search rules)
+misplaced_none core (Swa a b i) bad = absurd (search rules)
+misplaced_none core (Sw a b i) bad = absurd (search rules)
+misplaced_none core (Sb a b i) bad = absurd (search rules)
+misplaced_none core (Sh a b i) bad = absurd (search rules)
+misplaced_none core _ bad = refl
 
 -- a line that is kept changes no access
 pub access_of_word-line : (core : Core) (world : World) (pa : ℕ) (line : Option (List ℕ)) (word : ℕ) → access_of_word (with_line core pa line) world word ≡ access_of_word core world word

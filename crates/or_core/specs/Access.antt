@@ -24,25 +24,25 @@ use Rattle.or_bus.specs.declared.access.AccessKind.TheVariants.{Load, Store, Lin
 use Rattle.or_bus.specs.Last.{access_of}
 
 -- how an instruction goes to memory: in which way, how wide, and at which register and immediate
-pub record Reach : Type 0 where
+pub record MemoryOperand : Type 0 where
   pub kind : AccessKind
   pub width : Width
   pub base : ℕ
   pub offset : ℤ
 
-abbrev pub reach : Insn → Option Reach
-reach (Lwz d a i) = Some (record { kind = Load; width = Word; base = a; offset = i })
-reach (Lws d a i) = Some (record { kind = Load; width = Word; base = a; offset = i })
-reach (Lhz d a i) = Some (record { kind = Load; width = Half; base = a; offset = i })
-reach (Lhs d a i) = Some (record { kind = Load; width = Half; base = a; offset = i })
-reach (Lbz d a i) = Some (record { kind = Load; width = Byte; base = a; offset = i })
-reach (Lbs d a i) = Some (record { kind = Load; width = Byte; base = a; offset = i })
-reach (Sw a b i) = Some (record { kind = Store; width = Word; base = a; offset = i })
-reach (Sh a b i) = Some (record { kind = Store; width = Half; base = a; offset = i })
-reach (Sb a b i) = Some (record { kind = Store; width = Byte; base = a; offset = i })
-reach (Lwa d a i) = Some (record { kind = Linked; width = Word; base = a; offset = i })
-reach (Swa a b i) = Some (record { kind = Conditional; width = Word; base = a; offset = i })
-reach _ = None
+abbrev pub memory_operand : Insn → Option MemoryOperand
+memory_operand (Lwz d a i) = Some (record { kind = Load; width = Word; base = a; offset = i })
+memory_operand (Lws d a i) = Some (record { kind = Load; width = Word; base = a; offset = i })
+memory_operand (Lhz d a i) = Some (record { kind = Load; width = Half; base = a; offset = i })
+memory_operand (Lhs d a i) = Some (record { kind = Load; width = Half; base = a; offset = i })
+memory_operand (Lbz d a i) = Some (record { kind = Load; width = Byte; base = a; offset = i })
+memory_operand (Lbs d a i) = Some (record { kind = Load; width = Byte; base = a; offset = i })
+memory_operand (Sw a b i) = Some (record { kind = Store; width = Word; base = a; offset = i })
+memory_operand (Sh a b i) = Some (record { kind = Store; width = Half; base = a; offset = i })
+memory_operand (Sb a b i) = Some (record { kind = Store; width = Byte; base = a; offset = i })
+memory_operand (Lwa d a i) = Some (record { kind = Linked; width = Word; base = a; offset = i })
+memory_operand (Swa a b i) = Some (record { kind = Conditional; width = Word; base = a; offset = i })
+memory_operand _ = None
 
 -- the right that it needs
 abbrev pub right_of : AccessKind → Right
@@ -63,12 +63,12 @@ abbrev pub access_at : Core → World → AccessKind → Route → Option Access
 access_at core world kind (Refused cause) = None
 access_at core world kind (At pa cached) = if in_ram world pa && is_made core world pa kind then Some (access_of core.number pa kind) else None
 
-abbrev pub access_by : Core → World → Reach → Option Access
-access_by core world reach = access_at core world reach.kind (data_route core (plus (register core reach.base) (immediate reach.offset)) reach.width (right_of reach.kind))
+abbrev pub access_by : Core → World → MemoryOperand → Option Access
+access_by core world memory_operand = access_at core world memory_operand.kind (data_route core (plus (register core memory_operand.base) (immediate memory_operand.offset)) memory_operand.width (right_of memory_operand.kind))
 
 -- the access of a word as an instruction
 unfoldable pub access_of_word : Core → World → ℕ → Option Access
-access_of_word core world word = option_and_then (λ insn. option_and_then (access_by core world) (reach insn)) (decode_of word)
+access_of_word core world word = option_and_then (λ insn. option_and_then (access_by core world) (memory_operand insn)) (decode_of word)
 
 -- the word that is fetched: of a held instruction line, or what the bus answers
 abbrev pub word_fetched : World → ℕ → Bool → Option ℕ

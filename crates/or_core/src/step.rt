@@ -11,7 +11,7 @@ ghost use Rattle.or_model.specs.Step.{with_step_counted, is_misplaced, spr_numbe
 ghost use Rattle.or_bus.specs.Represents.{Represents};
 ghost use Rattle.or_model.specs.Counts.{SameCounts, SameSettings};
 ghost use Rattle.or_core.specs.Follows.{IsState, IsOutcome, IsAlignedBy, KeepsBus};
-ghost use Rattle.or_core.specs.Access.{reach, access_by, access_of_word, word_fetched, step_access};
+ghost use Rattle.or_core.specs.Access.{memory_operand, access_by, access_of_word, word_fetched, step_access};
 
 use crate::data_access::UNCACHED;
 use crate::state::{Core, has};
@@ -150,7 +150,7 @@ impl Core {
         ensures outcome { (world : World) → Represents bus.old world → IsOutcome (outcome_on_bus self.old world insn) result self.new bus.new }
         ensures err { OnErr result ((self.new ≡ self.old) × (bus.new ≡ bus.old)) }
         ensures counts { SameCounts self.old self.new }
-        ensures access { (world : World) → Represents bus.old world → bus.new.last ≡ option_or (option_and_then (access_by self.old world) (reach insn)) bus.old.last }
+        ensures access { (world : World) → Represents bus.old world → bus.new.last ≡ option_or (option_and_then (access_by self.old world) (memory_operand insn)) bus.old.last }
         ensures bus { KeepsBus bus.old bus.new }
     {
         if self.is_misplaced(&insn) {
@@ -251,7 +251,7 @@ impl Core {
         ensures state { (world : World) → Represents bus.old world → IsState (step_on_bus self.old world insn) self.new bus.new }
         ensures settings { SameSettings self.old self.new }
         ensures steps { self.new.steps ≡ self.old.steps + 1 }
-        ensures access { (world : World) → Represents bus.old world → bus.new.last ≡ option_or (option_and_then (access_by self.old world) (reach insn)) bus.old.last }
+        ensures access { (world : World) → Represents bus.old world → bus.new.last ≡ option_or (option_and_then (access_by self.old world) (memory_operand insn)) bus.old.last }
         ensures bus { KeepsBus bus.old bus.new }
     {
         match self.attempt_on_bus(bus, insn) {
