@@ -1,8 +1,10 @@
 //! Instructions that ask nothing of the bus (OpenRISC 1000 Architecture Manual, chapter 5, ORBIS32).
 
-ghost use Rattle.std.specs.Prelude.{◌≡◌, MatchResult, OnErr, Ok, Err};
+ghost use Rattle.std.specs.Prelude.{◌≡◌, ◌<◌, MatchResult, OnErr, Ok, Err};
 ghost use Rattle.or_isa.specs.Fits.{Fits};
-ghost use Rattle.or_model.specs.Execute.{executed};
+ghost use Rattle.or_model.specs.Execute.{executed, put_comparison, put_shifted, put_accumulator};
+ghost use Rattle.or_model.specs.Core.{register};
+ghost use Rattle.or_parts.specs.Bits.{immediate};
 ghost use Rattle.or_model.specs.Counts.{SameCounts};
 
 use crate::state::Core;
@@ -117,43 +119,43 @@ impl Core {
                 Ok(())
             }
             Insn::Sfeqi { a, i } => {
-                self.put_comparison(CompareCode::Eq, self.register(a), i.cast_unsigned());
+                self.compare_immediate(CompareCode::Eq, a, i);
                 Ok(())
             }
             Insn::Sfnei { a, i } => {
-                self.put_comparison(CompareCode::Ne, self.register(a), i.cast_unsigned());
+                self.compare_immediate(CompareCode::Ne, a, i);
                 Ok(())
             }
             Insn::Sfgtui { a, i } => {
-                self.put_comparison(CompareCode::Gtu, self.register(a), i.cast_unsigned());
+                self.compare_immediate(CompareCode::Gtu, a, i);
                 Ok(())
             }
             Insn::Sfgeui { a, i } => {
-                self.put_comparison(CompareCode::Geu, self.register(a), i.cast_unsigned());
+                self.compare_immediate(CompareCode::Geu, a, i);
                 Ok(())
             }
             Insn::Sfltui { a, i } => {
-                self.put_comparison(CompareCode::Ltu, self.register(a), i.cast_unsigned());
+                self.compare_immediate(CompareCode::Ltu, a, i);
                 Ok(())
             }
             Insn::Sfleui { a, i } => {
-                self.put_comparison(CompareCode::Leu, self.register(a), i.cast_unsigned());
+                self.compare_immediate(CompareCode::Leu, a, i);
                 Ok(())
             }
             Insn::Sfgtsi { a, i } => {
-                self.put_comparison(CompareCode::Gts, self.register(a), i.cast_unsigned());
+                self.compare_immediate(CompareCode::Gts, a, i);
                 Ok(())
             }
             Insn::Sfgesi { a, i } => {
-                self.put_comparison(CompareCode::Ges, self.register(a), i.cast_unsigned());
+                self.compare_immediate(CompareCode::Ges, a, i);
                 Ok(())
             }
             Insn::Sfltsi { a, i } => {
-                self.put_comparison(CompareCode::Lts, self.register(a), i.cast_unsigned());
+                self.compare_immediate(CompareCode::Lts, a, i);
                 Ok(())
             }
             Insn::Sflesi { a, i } => {
-                self.put_comparison(CompareCode::Les, self.register(a), i.cast_unsigned());
+                self.compare_immediate(CompareCode::Les, a, i);
                 Ok(())
             }
             Insn::Mtspr { a, b, k } => {
@@ -162,19 +164,19 @@ impl Core {
                 Ok(())
             }
             Insn::Mac { a, b } => {
-                self.accumulate(MacKind::Plus, self.register(a), self.register(b));
+                self.accumulate_registers(MacKind::Plus, a, b);
                 Ok(())
             }
             Insn::Msb { a, b } => {
-                self.accumulate(MacKind::Minus, self.register(a), self.register(b));
+                self.accumulate_registers(MacKind::Minus, a, b);
                 Ok(())
             }
             Insn::Macu { a, b } => {
-                self.accumulate(MacKind::PlusUnsigned, self.register(a), self.register(b));
+                self.accumulate_registers(MacKind::PlusUnsigned, a, b);
                 Ok(())
             }
             Insn::Msbu { a, b } => {
-                self.accumulate(MacKind::MinusUnsigned, self.register(a), self.register(b));
+                self.accumulate_registers(MacKind::MinusUnsigned, a, b);
                 Ok(())
             }
             Insn::Add { d, a, b } => self.put_sum(d, self.register(a), self.register(b), false),
@@ -212,27 +214,27 @@ impl Core {
                 Ok(())
             }
             Insn::Sll { d, a, b } => {
-                self.put_shifted(d, ShiftKind::Lower, self.register(a), self.register(b));
+                self.shift_registers(d, ShiftKind::Lower, a, b);
                 Ok(())
             }
             Insn::Srl { d, a, b } => {
-                self.put_shifted(d, ShiftKind::Upper, self.register(a), self.register(b));
+                self.shift_registers(d, ShiftKind::Upper, a, b);
                 Ok(())
             }
             Insn::Sra { d, a, b } => {
-                self.put_shifted(d, ShiftKind::Arithmetic, self.register(a), self.register(b));
+                self.shift_registers(d, ShiftKind::Arithmetic, a, b);
                 Ok(())
             }
             Insn::Ror { d, a, b } => {
-                self.put_shifted(d, ShiftKind::Rotate, self.register(a), self.register(b));
+                self.shift_registers(d, ShiftKind::Rotate, a, b);
                 Ok(())
             }
             Insn::Muld { a, b } => {
-                self.accumulate(MacKind::Set, self.register(a), self.register(b));
+                self.accumulate_registers(MacKind::Set, a, b);
                 Ok(())
             }
             Insn::Muldu { a, b } => {
-                self.accumulate(MacKind::SetUnsigned, self.register(a), self.register(b));
+                self.accumulate_registers(MacKind::SetUnsigned, a, b);
                 Ok(())
             }
             Insn::Ff1 { d, a } => {
@@ -264,43 +266,43 @@ impl Core {
                 Ok(())
             }
             Insn::Sfeq { a, b } => {
-                self.put_comparison(CompareCode::Eq, self.register(a), self.register(b));
+                self.compare_registers(CompareCode::Eq, a, b);
                 Ok(())
             }
             Insn::Sfne { a, b } => {
-                self.put_comparison(CompareCode::Ne, self.register(a), self.register(b));
+                self.compare_registers(CompareCode::Ne, a, b);
                 Ok(())
             }
             Insn::Sfgtu { a, b } => {
-                self.put_comparison(CompareCode::Gtu, self.register(a), self.register(b));
+                self.compare_registers(CompareCode::Gtu, a, b);
                 Ok(())
             }
             Insn::Sfgeu { a, b } => {
-                self.put_comparison(CompareCode::Geu, self.register(a), self.register(b));
+                self.compare_registers(CompareCode::Geu, a, b);
                 Ok(())
             }
             Insn::Sfltu { a, b } => {
-                self.put_comparison(CompareCode::Ltu, self.register(a), self.register(b));
+                self.compare_registers(CompareCode::Ltu, a, b);
                 Ok(())
             }
             Insn::Sfleu { a, b } => {
-                self.put_comparison(CompareCode::Leu, self.register(a), self.register(b));
+                self.compare_registers(CompareCode::Leu, a, b);
                 Ok(())
             }
             Insn::Sfgts { a, b } => {
-                self.put_comparison(CompareCode::Gts, self.register(a), self.register(b));
+                self.compare_registers(CompareCode::Gts, a, b);
                 Ok(())
             }
             Insn::Sfges { a, b } => {
-                self.put_comparison(CompareCode::Ges, self.register(a), self.register(b));
+                self.compare_registers(CompareCode::Ges, a, b);
                 Ok(())
             }
             Insn::Sflts { a, b } => {
-                self.put_comparison(CompareCode::Lts, self.register(a), self.register(b));
+                self.compare_registers(CompareCode::Lts, a, b);
                 Ok(())
             }
             Insn::Sfles { a, b } => {
-                self.put_comparison(CompareCode::Les, self.register(a), self.register(b));
+                self.compare_registers(CompareCode::Les, a, b);
                 Ok(())
             }
             Insn::Lwa { .. }
@@ -315,5 +317,46 @@ impl Core {
             | Insn::Sb { .. }
             | Insn::Sh { .. } => Err(Cause::Illegal),
         }
+    }
+
+    // Results of operations on registers: one call each in `execute`, whose proof grows with its calls.
+    #[inline(always)]
+    fn compare_registers(&mut self, code: CompareCode, a: u32, b: u32)
+        requires a { a < 32 }
+        requires b { b < 32 }
+        ensures state { self.new ≡ put_comparison self.old code (register self.old a) (register self.old b) }
+        ensures counts { SameCounts self.old self.new }
+    {
+        self.put_comparison(code, self.register(a), self.register(b));
+    }
+
+    #[inline(always)]
+    fn compare_immediate(&mut self, code: CompareCode, a: u32, i: i32)
+        requires a { a < 32 }
+        ensures state { self.new ≡ put_comparison self.old code (register self.old a) (immediate i) }
+        ensures counts { SameCounts self.old self.new }
+    {
+        self.put_comparison(code, self.register(a), i.cast_unsigned());
+    }
+
+    #[inline(always)]
+    fn shift_registers(&mut self, d: u32, kind: ShiftKind, a: u32, b: u32)
+        requires d { d < 32 }
+        requires a { a < 32 }
+        requires b { b < 32 }
+        ensures state { self.new ≡ put_shifted self.old d kind (register self.old a) (register self.old b) }
+        ensures counts { SameCounts self.old self.new }
+    {
+        self.put_shifted(d, kind, self.register(a), self.register(b));
+    }
+
+    #[inline(always)]
+    fn accumulate_registers(&mut self, kind: MacKind, a: u32, b: u32)
+        requires a { a < 32 }
+        requires b { b < 32 }
+        ensures state { self.new ≡ put_accumulator self.old kind (register self.old a) (register self.old b) }
+        ensures counts { SameCounts self.old self.new }
+    {
+        self.accumulate(kind, self.register(a), self.register(b));
     }
 }
