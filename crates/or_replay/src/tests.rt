@@ -1,6 +1,9 @@
 //! A board over a small image.
+ghost use Rattle.std.specs.Prelude.{◌<◌};
+
 use super::*;
 use arrayvec::ArrayVec;
+use or_bus::Access;
 use or_words::Config;
 use std::alloc::Global;
 use std::test::Fail;
@@ -32,18 +35,73 @@ fn board(alloc: Global) -> Result<Board, Fail> {
     }
 }
 
+// The helpers below have no ensures, so that the facts of each call end with it.
+
+#[tactic(auto, using(crate::proofs::Unmarked::no_marks))]
+fn follow(board: &mut Board, turns: &[u8]) -> Result<(), TurnFault> {
+    board.follow(turns, &[])
+}
+
+fn copy(board: &mut Board, alloc: Global) -> Result<Board, Fail> {
+    Ok(board.copy(alloc)?)
+}
+
+fn is_finished(board: &Board) -> bool {
+    board.finished()
+}
+
+// The report of core 0.
+fn first_core_text(board: &Board, alloc: Global) -> Result<Vec<u8>, Fail> {
+    let mut text = Vec::new(alloc);
+    let Some(core) = board.cores().first() else {
+        return Err("no core".into());
+    };
+    core_text(alloc, core, board.counts(0), &mut text)?;
+    Ok(text)
+}
+
+// The head of the report of core 0 when it has stopped.
+const TEXT: &[u8] =
+    b"core 0 exit 90000000 steps 4 hits 0 misses 0\npc 00000110 slot - sr 00008001 epcr 00000000 eear 00000000 esr 00000000\n";
+
+fn begins(text: &[u8], with: &[u8]) -> bool {
+    text.starts_with(with)
+}
+
+// Whether core 0 holds a line with this index.
+fn first_core_holds(board: &Board, index: u32) -> Result<bool, Fail>
+    requires { index < 128 }
+{
+    if board.cores().is_empty() {
+        return Err("no core".into());
+    }
+    Ok(board.line(0, index).is_some())
+}
+
+fn observe(board: &mut Board, core: u8) -> Result<Option<Access>, Refused> {
+    board.observe(core)
+}
+
+// The steps of a turn of a core.
+fn trace(board: &mut Board, core: u8) -> Result<ArrayVec<u32, 256>, Refused> {
+    let mut trace = ArrayVec::new();
+    board.turn_traced(core, &mut trace)?;
+    Ok(trace)
+}
+
+fn word(board: &mut Board, pa: u32) -> Option<u32> {
+    board.word(pa)
+}
+
 #[test]
 fn turns_are_watched(rt: HostRuntime) -> Result<(), Fail> {
-    let alloc = rt.alloc();
-    let mut board = board(alloc)?;
-    let mut trace = ArrayVec::new();
-    assert_eq!(rt; board.turn_traced(1, &mut trace), Ok(()));
-    assert!(rt; trace.as_slice() == [0x100].as_slice());
-    assert_eq!(rt; board.observe(1), Ok(None));
-    let access = board.observe(1).ok().flatten();
+    let mut board = board(rt.alloc())?;
+    assert!(rt; trace(&mut board, 1).is_ok_and(|trace| trace.as_slice() == [0x100].as_slice()));
+    assert!(rt; observe(&mut board, 1) == Ok(None));
+    let access = observe(&mut board, 1).ok().flatten();
     assert!(rt; access.is_some_and(|access| access.core == 1 && access.word == 0x200));
-    assert_eq!(rt; board.word(0x200), Some(0x48));
-    assert_eq!(rt; board.observe(2), Err(Refused::NoSuchCore));
+    assert!(rt; word(&mut board, 0x200) == Some(0x48));
+    assert!(rt; observe(&mut board, 2) == Err(Refused::NoSuchCore));
     Ok(())
 }
 
@@ -51,27 +109,12 @@ fn turns_are_watched(rt: HostRuntime) -> Result<(), Fail> {
 fn boards_are_copied(rt: HostRuntime) -> Result<(), Fail> {
     let alloc = rt.alloc();
     let mut board = board(alloc)?;
-    assert_eq!(rt;
-        board.follow(&[0, 1, 1, 0, 0], &[]),
-        Err(TurnFault::Running { core: 0 })
-    );
-    let mut copy = board.copy(alloc)?;
-    assert_eq!(rt;
-        board.follow(&[0, 1, 1, 1], &[]),
-        Err(TurnFault::Stopped { turn: 3 })
-    );
-    assert_eq!(rt; copy.follow(&[0, 1, 1], &[]), Ok(()));
-    assert!(rt; copy.finished() && board.finished());
-    let mut text = Vec::new(alloc);
-    let Some(core) = copy.cores().first() else {
-        return Err("no core".into());
-    };
-    core_text(alloc, core, copy.counts(0), &mut text)?;
-    assert!(rt;
-        text.starts_with(
-            b"core 0 exit 90000000 steps 4 hits 0 misses 0\npc 00000110 slot - sr 00008001 epcr 00000000 eear 00000000 esr 00000000\n"
-        )
-    );
-    assert!(rt; copy.line(0, 16).is_none());
+    assert!(rt; follow(&mut board, &[0, 1, 1, 0, 0]) == Err(TurnFault::Running { core: 0 }));
+    let mut copy = copy(&mut board, alloc)?;
+    assert!(rt; follow(&mut board, &[0, 1, 1, 1]) == Err(TurnFault::Stopped { turn: 3 }));
+    assert!(rt; follow(&mut copy, &[0, 1, 1]) == Ok(()));
+    assert!(rt; is_finished(&copy) && is_finished(&board));
+    assert!(rt; begins(&first_core_text(&copy, alloc)?, TEXT));
+    assert!(rt; !first_core_holds(&copy, 16)?);
     Ok(())
 }
