@@ -5,102 +5,128 @@ use crate::{
     say_usage, write_outputs,
 };
 use or_host::MemHost;
-use std::alloc::{AllocError, Global};
+use std::alloc::Global;
 use std::test::Fail;
 
-// The status of an end, and what is said of it.
-fn ended(alloc: Global, outcome: Outcome<'_>) -> Result<(u8, Vec<u8>), AllocError> {
+// Whether an end has this status and this line. No helper here has an `ensures`, so that the facts of its calls end in it.
+fn ends(alloc: Global, outcome: Outcome<'_>, status: u8, line: &[u8]) -> bool {
     let mut host = MemHost::new(alloc, Vec::new(alloc));
-    let status = conclude(&mut host, outcome);
-    let said = Vec::from_slice(alloc, host.said())?;
-    Ok((status, said))
+    conclude(&mut host, outcome) == status && host.said() == line
+}
+
+// The same of a refused image, source or other file.
+fn refuses(alloc: Global, refusal: Refusal<'_>, status: u8, line: &[u8]) -> bool {
+    ends(alloc, Outcome::Refused(refusal), status, line)
 }
 
 // The same of a refused recording.
-fn refused(alloc: Global, detail: ScheduleDetail) -> Result<(u8, Vec<u8>), AllocError> {
-    ended(
-        alloc,
-        Outcome::Refused(Refusal::Schedule { name: "s", detail }),
-    )
+fn refuses_recording(alloc: Global, detail: ScheduleDetail, line: &[u8]) -> bool {
+    refuses(alloc, Refusal::Schedule { name: "s", detail }, 4, line)
 }
 
 #[test]
 fn ends_are_said(rt: HostRuntime) -> Result<(), Fail> {
-    let alloc = rt.alloc();
-    let (status, line) = ended(alloc, Outcome::Done)?;
-    assert!(rt; status == 0 && line.is_empty());
-    let (status, line) = ended(alloc, Outcome::Unread("i"))?;
-    assert!(rt; status == 5 && line.as_slice() == b"or1k: read i\n".as_slice());
-    let (status, line) = ended(alloc, Outcome::TooLong("h.elf", 67_108_864))?;
-    assert!(rt; status == 8 && line.as_slice() == b"or1k: too long h.elf 67108864\n".as_slice());
-    let (status, line) = ended(alloc, Outcome::Unwritten("-"))?;
-    assert!(rt; status == 6 && line.as_slice() == b"or1k: write -\n".as_slice());
-    let (status, line) = ended(alloc, Outcome::NoMemory)?;
-    assert!(rt; status == 7 && line.as_slice() == b"or1k: no memory\n".as_slice());
+    let cases: [(Outcome<'_>, u8, &[u8]); 5] = [
+        (Outcome::Done, 0, b""),
+        (Outcome::Unread("i"), 5, b"or1k: read i\n"),
+        (
+            Outcome::TooLong("h.elf", 67_108_864),
+            8,
+            b"or1k: too long h.elf 67108864\n",
+        ),
+        (Outcome::Unwritten("-"), 6, b"or1k: write -\n"),
+        (Outcome::NoMemory, 7, b"or1k: no memory\n"),
+    ];
+    for (outcome, status, line) in cases {
+        assert!(rt; ends(rt.alloc(), outcome, status, line));
+    }
     Ok(())
 }
 
 #[test]
 fn refusals_are_said(rt: HostRuntime) -> Result<(), Fail> {
-    let alloc = rt.alloc();
-    let image = Refusal::Image {
-        name: "h.elf",
-        fault: 1,
-        place: 51,
-    };
-    let (status, line) = ended(alloc, Outcome::Refused(image))?;
-    assert!(rt; status == 3 && line.as_slice() == b"or1k: image h.elf fault 1 51\n".as_slice());
-    let source = Refusal::Source {
-        name: "a",
-        fault: 2,
-        line: 2,
-    };
-    let (status, line) = ended(alloc, Outcome::Refused(source))?;
-    assert!(rt; status == 9 && line.as_slice() == b"or1k: source a fault 2 line 2\n".as_slice());
-    let script = Refusal::Script {
-        name: "q",
-        fault: 2,
-        line: 1,
-    };
-    let (status, line) = ended(alloc, Outcome::Refused(script))?;
-    assert!(rt; status == 10 && line.as_slice() == b"or1k: script q fault 2 line 1\n".as_slice());
-    let symbols = Refusal::Symbols {
-        name: "h.elf",
-        fault: 1,
-        place: 32,
-    };
-    let (status, line) = ended(alloc, Outcome::Refused(symbols))?;
-    assert!(rt; status == 12 && line.as_slice() == b"or1k: symbols h.elf fault 1 32\n".as_slice());
+    let cases: [(Refusal<'_>, u8, &[u8]); 4] = [
+        (
+            Refusal::Image {
+                name: "h.elf",
+                fault: 1,
+                place: 51,
+            },
+            3,
+            b"or1k: image h.elf fault 1 51\n",
+        ),
+        (
+            Refusal::Source {
+                name: "a",
+                fault: 2,
+                line: 2,
+            },
+            9,
+            b"or1k: source a fault 2 line 2\n",
+        ),
+        (
+            Refusal::Script {
+                name: "q",
+                fault: 2,
+                line: 1,
+            },
+            10,
+            b"or1k: script q fault 2 line 1\n",
+        ),
+        (
+            Refusal::Symbols {
+                name: "h.elf",
+                fault: 1,
+                place: 32,
+            },
+            12,
+            b"or1k: symbols h.elf fault 1 32\n",
+        ),
+    ];
+    for (refusal, status, line) in cases {
+        assert!(rt; refuses(rt.alloc(), refusal, status, line));
+    }
     Ok(())
 }
 
 #[test]
 fn refused_recordings_are_said(rt: HostRuntime) -> Result<(), Fail> {
-    let alloc = rt.alloc();
-    let (status, line) = refused(alloc, ScheduleDetail::At { place: 195 })?;
-    assert!(rt; status == 4 && line.as_slice() == b"or1k: schedule s at 195\n".as_slice());
-    let (_, line) = refused(alloc, ScheduleDetail::Head { line: 2 })?;
-    assert!(rt; line.as_slice() == b"or1k: schedule s head 2\n".as_slice());
-    let (_, line) = refused(alloc, ScheduleDetail::TurnStopped { turn: 4 })?;
-    assert!(rt; line.as_slice() == b"or1k: schedule s turn 4 stopped\n".as_slice());
-    let (_, line) = refused(alloc, ScheduleDetail::CoreRunning { core: 0 })?;
-    assert!(rt; line.as_slice() == b"or1k: schedule s core 0 running\n".as_slice());
-    let detail = ScheduleDetail::TurnConsole {
-        turn: 65536,
-        recorded: 1,
-        found: 0,
-    };
-    let (_, line) = refused(alloc, detail)?;
-    assert!(rt; line.as_slice() == b"or1k: schedule s turn 65536 console 1 0\n".as_slice());
-    let detail = ScheduleDetail::Input(Digests {
-        recorded: [0xE3; 32],
-        found: [0x0A; 32],
-    });
-    let (_, line) = refused(alloc, detail)?;
-    assert!(rt;
-        line.as_slice()
-            == b"or1k: schedule s input e3e3e3e3e3e3e3e3e3e3e3e3e3e3e3e3e3e3e3e3e3e3e3e3e3e3e3e3e3e3e3e3 0a0a0a0a0a0a0a0a0a0a0a0a0a0a0a0a0a0a0a0a0a0a0a0a0a0a0a0a0a0a0a0a\n".as_slice()
-    );
+    let cases: [(ScheduleDetail, &[u8]); 6] = [
+        (
+            ScheduleDetail::At { place: 195 },
+            b"or1k: schedule s at 195\n",
+        ),
+        (
+            ScheduleDetail::Head { line: 2 },
+            b"or1k: schedule s head 2\n",
+        ),
+        (
+            ScheduleDetail::TurnStopped { turn: 4 },
+            b"or1k: schedule s turn 4 stopped\n",
+        ),
+        (
+            ScheduleDetail::CoreRunning { core: 0 },
+            b"or1k: schedule s core 0 running\n",
+        ),
+        (
+            ScheduleDetail::TurnConsole {
+                turn: 65536,
+                recorded: 1,
+                found: 0,
+            },
+            b"or1k: schedule s turn 65536 console 1 0\n",
+        ),
+        (
+            ScheduleDetail::Input(Digests {
+                recorded: [0xE3; 32],
+                found: [0x0A; 32],
+            }),
+            b"or1k: schedule s input e3e3e3e3e3e3e3e3e3e3e3e3e3e3e3e3e3e3e3e3e3e3e3e3e3e3e3e3e3e3e3e3 0a0a0a0a0a0a0a0a0a0a0a0a0a0a0a0a0a0a0a0a0a0a0a0a0a0a0a0a0a0a0a0a\n",
+        ),
+    ];
+    for (detail, line) in cases {
+        assert!(rt; refuses_recording(rt.alloc(), detail, line));
+    }
     Ok(())
 }
 
@@ -154,8 +180,14 @@ fn each_write_fails_in_turn(rt: HostRuntime) -> Result<(), Fail> {
     Ok(())
 }
 
-// How many files are loaded of `a` and this one, and the limit that stopped the loads, or 0.
-fn loaded(alloc: Global, name: &str, limit: usize) -> Result<(usize, usize), Fail>
+// Whether of `a` and this file so many are loaded, with the limit that stopped the loads, or 0.
+fn loads(
+    alloc: Global,
+    name: &str,
+    limit: usize,
+    count: usize,
+    stopped: usize,
+) -> Result<bool, Fail>
     requires { IsName name.now }
 {
     let mut host = MemHost::new(alloc, Vec::new(alloc));
@@ -169,19 +201,19 @@ fn loaded(alloc: Global, name: &str, limit: usize) -> Result<(usize, usize), Fai
         Input { name, limit },
     ];
     let mut files = Vec::new(alloc);
-    let stopped = match load_files(alloc, &mut host, &inputs, &mut files) {
+    let limit = match load_files(alloc, &mut host, &inputs, &mut files) {
         Err(LoadStop::TooLong(_, limit)) => limit,
         _ => 0,
     };
-    Ok((files.len(), stopped))
+    Ok(files.len() == count && limit == stopped)
 }
 
 // Files are loaded up to the first that is not read or too long.
 #[test]
 fn loads_stop_at_the_first(rt: HostRuntime) -> Result<(), Fail> {
     let alloc = rt.alloc();
-    assert_eq!(rt; loaded(alloc, "b", 3)?, (2, 0));
-    assert_eq!(rt; loaded(alloc, "b", 2)?, (1, 2));
-    assert_eq!(rt; loaded(alloc, "x", 3)?, (1, 0));
+    assert!(rt; loads(alloc, "b", 3, 2, 0)?);
+    assert!(rt; loads(alloc, "b", 2, 1, 2)?);
+    assert!(rt; loads(alloc, "x", 3, 1, 0)?);
     Ok(())
 }
