@@ -1,4 +1,7 @@
 //! The commands over a host in memory.
+ghost use Rattle.or_command_line.specs.Words.{IsFileName};
+ghost use Rattle.or_command_line.specs.Names.{IsAssembly};
+
 use super::*;
 use or_host::MemHost;
 use std::alloc::Global;
@@ -28,38 +31,95 @@ fn host(alloc: Global, call: u64) -> Result<MemHost, Fail> {
     Ok(host)
 }
 
+// What a command has said, written out and left. No helper here has an `ensures`, so that the facts of its calls end in it.
+fn says(host: &MemHost, line: &[u8]) -> bool {
+    host.said() == line
+}
+
+fn writes(host: &MemHost, bytes: &[u8]) -> bool {
+    host.written() == bytes
+}
+
+fn has_file(host: &MemHost, name: &str) -> bool {
+    host.file(name).is_some()
+}
+
+fn holds(host: &MemHost, name: &str, bytes: &[u8]) -> bool {
+    match host.file(name) {
+        Some(file) => file == bytes,
+        None => false,
+    }
+}
+
+fn size_of(host: &MemHost, name: &str) -> Option<usize> {
+    match host.file(name) {
+        Some(file) => Some(file.len()),
+        None => None,
+    }
+}
+
+fn has_size(host: &MemHost, name: &str, size: Option<usize>) -> bool {
+    size_of(host, name) == size
+}
+
+fn assembled(alloc: Global, source: &str, image: &str, host: &mut MemHost) -> u8
+    requires { IsAssembly source.now image.now }
+{
+    asm(alloc, source, image, host)
+}
+
+fn listed(alloc: Global, image: &str, host: &mut MemHost) -> u8
+    requires { IsFileName image.now }
+{
+    dis(alloc, image, host)
+}
+
 #[test]
 fn a_source_is_assembled(rt: HostRuntime) -> Result<(), Fail> {
     let alloc = rt.alloc();
     let mut host = host(alloc, 0)?;
-    assert_eq!(rt; asm(alloc, "a.s", "i", &mut host), 0);
-    assert!(rt; host.file("i").ok_or("no image")? == IMAGE.as_slice());
-    assert!(rt; host.written().is_empty());
-    assert!(rt; host.said().is_empty());
+    assert_eq!(rt; assembled(alloc, "a.s", "i", &mut host), 0);
+    assert!(rt; holds(&host, "i", &IMAGE));
+    assert!(rt; writes(&host, b""));
+    assert!(rt; says(&host, b""));
     Ok(())
+}
+
+// Whether an assembly whose call of this number fails has this status and line, leaves so much of the image, and writes nothing out.
+fn asm_fails(
+    alloc: Global,
+    call: u64,
+    status: u8,
+    line: &[u8],
+    size: Option<usize>,
+) -> Result<bool, Fail> {
+    let mut host = host(alloc, call)?;
+    Ok(
+        assembled(alloc, "a.s", "i", &mut host) == status
+            && says(&host, line)
+            && has_size(&host, "i", size)
+            && writes(&host, b""),
+    )
 }
 
 #[test]
 fn each_call_of_asm_fails_in_turn(rt: HostRuntime) -> Result<(), Fail> {
     let alloc = rt.alloc();
-    let cases: [(u64, u8, &[u8], Option<usize>); 3] = [
-        (1, 5, b"or1k: read a.s\n", None),
-        (2, 6, b"or1k: write i\n", None),
-        (3, 6, b"or1k: write i\n", Some(50)),
-    ];
-    for (call, wanted, line, size) in cases {
-        let mut host = host(alloc, call)?;
-        assert_eq!(rt; asm(alloc, "a.s", "i", &mut host), wanted);
-        assert_eq!(rt; host.said(), line);
-        assert_eq!(rt; host.file("i").map(|file| file.len()), size);
-        assert!(rt; host.written().is_empty());
-    }
+    assert!(rt; asm_fails(alloc, 1, 5, b"or1k: read a.s\n", None)?);
+    assert!(rt; asm_fails(alloc, 2, 6, b"or1k: write i\n", None)?);
+    assert!(rt; asm_fails(alloc, 3, 6, b"or1k: write i\n", Some(50))?);
     Ok(())
+}
+
+// Whether a source is refused with this line, and leaves no image.
+fn is_refused(alloc: Global, source: &[u8], line: &[u8]) -> Result<bool, Fail> {
+    let mut host = host(alloc, 0)?;
+    host.put("b.s", source)?;
+    Ok(assembled(alloc, "b.s", "i", &mut host) == 9 && says(&host, line) && !has_file(&host, "i"))
 }
 
 #[test]
 fn faulty_sources_are_refused(rt: HostRuntime) -> Result<(), Fail> {
-    let alloc = rt.alloc();
     let cases: [(&[u8], &[u8]); 5] = [
         (
             b"l.nop 0\nl.frob r1\n",
@@ -77,11 +137,7 @@ fn faulty_sources_are_refused(rt: HostRuntime) -> Result<(), Fail> {
         ),
     ];
     for (source, line) in cases {
-        let mut host = host(alloc, 0)?;
-        host.put("b.s", source)?;
-        assert_eq!(rt; asm(alloc, "b.s", "i", &mut host), 9);
-        assert_eq!(rt; host.said(), line);
-        assert!(rt; host.file("i").is_none());
+        assert!(rt; is_refused(rt.alloc(), source, line)?);
     }
     Ok(())
 }
@@ -90,9 +146,9 @@ fn faulty_sources_are_refused(rt: HostRuntime) -> Result<(), Fail> {
 fn an_image_is_listed(rt: HostRuntime) -> Result<(), Fail> {
     let alloc = rt.alloc();
     let mut host = host(alloc, 0)?;
-    assert_eq!(rt; dis(alloc, "h.elf", &mut host), 0);
-    assert!(rt; host.written() == LISTING);
-    assert!(rt; host.said().is_empty());
+    assert_eq!(rt; listed(alloc, "h.elf", &mut host), 0);
+    assert!(rt; writes(&host, LISTING));
+    assert!(rt; says(&host, b""));
     Ok(())
 }
 
@@ -106,7 +162,7 @@ fn listing_with(alloc: Global, changes: &[(usize, u8)]) -> Result<Vec<u8>, Fail>
     }
     let mut host = host(alloc, 0)?;
     host.put("j.elf", &image)?;
-    if dis(alloc, "j.elf", &mut host) != 0 {
+    if listed(alloc, "j.elf", &mut host) != 0 {
         return Err(Fail::from("not listed"));
     }
     Ok(Vec::from_slice(alloc, host.written())?)
@@ -138,21 +194,37 @@ fn words_and_rests_are_listed(rt: HostRuntime) -> Result<(), Fail> {
     Ok(())
 }
 
+// Whether a listing whose call of this number fails, behind its load, writes so many bytes of the whole.
+fn dis_stops(alloc: Global, call: u64, size: usize) -> Result<bool, Fail> {
+    let mut host = host(alloc, call)?;
+    Ok(
+        listed(alloc, "h.elf", &mut host) == 6
+            && says(&host, b"or1k: write -\n")
+            && begins_listing(&host, size),
+    )
+}
+
+fn begins_listing(host: &MemHost, size: usize) -> bool {
+    let written = host.written();
+    written.len() == size && LISTING.starts_with(written)
+}
+
 #[test]
 fn each_call_of_dis_fails_in_turn(rt: HostRuntime) -> Result<(), Fail> {
     let alloc = rt.alloc();
     let mut host_of_load = host(alloc, 1)?;
-    assert_eq!(rt; dis(alloc, "h.elf", &mut host_of_load), 5);
-    assert!(rt; host_of_load.said() == b"or1k: read h.elf\n".as_slice());
-    assert!(rt; host_of_load.written().is_empty());
+    assert_eq!(rt; listed(alloc, "h.elf", &mut host_of_load), 5);
+    assert!(rt; says(&host_of_load, b"or1k: read h.elf\n"));
+    assert!(rt; writes(&host_of_load, b""));
     // half of the line that failed, behind the lines before it
-    let sizes: [usize; 4] = [18, 36 + 17, 36 + 34 + 16, 36 + 34 + 32 + 14];
-    for (index, size) in sizes.iter().enumerate() {
-        let mut host = host(alloc, index as u64 + 2)?;
-        assert_eq!(rt; dis(alloc, "h.elf", &mut host), 6);
-        assert!(rt; host.said() == b"or1k: write -\n".as_slice());
-        assert_eq!(rt; host.written().len(), *size);
-        assert!(rt; LISTING.starts_with(host.written()));
+    let cases: [(u64, usize); 4] = [
+        (2, 18),
+        (3, 36 + 17),
+        (4, 36 + 34 + 16),
+        (5, 36 + 34 + 32 + 14),
+    ];
+    for (call, size) in cases {
+        assert!(rt; dis_stops(alloc, call, size)?);
     }
     Ok(())
 }
@@ -162,32 +234,52 @@ fn faulty_images_are_not_listed(rt: HostRuntime) -> Result<(), Fail> {
     let alloc = rt.alloc();
     let mut host = host(alloc, 0)?;
     host.put("short.elf", &IMAGE[..51])?;
-    assert_eq!(rt; dis(alloc, "short.elf", &mut host), 3);
-    assert!(rt; host.said() == b"or1k: image short.elf fault 1 51\n".as_slice());
-    assert!(rt; host.written().is_empty());
+    assert_eq!(rt; listed(alloc, "short.elf", &mut host), 3);
+    assert!(rt; says(&host, b"or1k: image short.elf fault 1 51\n"));
+    assert!(rt; writes(&host, b""));
     Ok(())
 }
 
-#[test]
-fn a_workload_is_written(rt: HostRuntime) -> Result<(), Fail> {
-    let alloc = rt.alloc();
+// Writes a workload to `t`.
+fn generated(alloc: Global, host: &mut MemHost) -> u8 {
     let workload = or_command_line::Workload {
         seed: 1,
         cores: 4,
         rounds: 1000,
     };
-    let mut host = host(alloc, 0)?;
-    assert_eq!(rt; generate(alloc, &workload, "t", &mut host), 0);
-    let text = host.file("t").ok_or("no source")?;
-    assert!(rt; text.starts_with(b".org 0x100\nl.mfspr r15,r0,0x11\n"));
-    assert!(rt; text.ends_with(b"counter: .word 0\ndelays: .word 0\n.word 1\n.word 2\n.word 2\n"));
-    assert_eq!(rt; asm(alloc, "t", "i", &mut host), 0);
-    let half = host.file("t").ok_or("no source")?.len() / 2;
-    for (call, size) in [(1, None), (2, Some(half))] {
-        let mut host = MemHost::new(alloc, vec![in alloc; call]?);
-        assert_eq!(rt; generate(alloc, &workload, "t", &mut host), 6);
-        assert!(rt; host.said() == b"or1k: write t\n".as_slice());
-        assert_eq!(rt; host.file("t").map(|file| file.len()), size);
+    generate(alloc, &workload, "t", host)
+}
+
+// Whether `t` begins and ends as a workload does.
+fn is_workload(host: &MemHost) -> bool {
+    match host.file("t") {
+        Some(text) => {
+            text.starts_with(b".org 0x100\nl.mfspr r15,r0,0x11\n")
+                && text.ends_with(b"counter: .word 0\ndelays: .word 0\n.word 1\n.word 2\n.word 2\n")
+        }
+        None => false,
     }
+}
+
+// Whether a generation whose call of this number fails leaves so much of its source.
+fn generation_fails(alloc: Global, call: u64, size: Option<usize>) -> Result<bool, Fail> {
+    let mut host = MemHost::new(alloc, vec![in alloc; call]?);
+    Ok(
+        generated(alloc, &mut host) == 6
+            && says(&host, b"or1k: write t\n")
+            && has_size(&host, "t", size),
+    )
+}
+
+#[test]
+fn a_workload_is_written(rt: HostRuntime) -> Result<(), Fail> {
+    let alloc = rt.alloc();
+    let mut host = host(alloc, 0)?;
+    assert_eq!(rt; generated(alloc, &mut host), 0);
+    assert!(rt; is_workload(&host));
+    assert_eq!(rt; assembled(alloc, "t", "i", &mut host), 0);
+    let half = size_of(&host, "t").ok_or("no source")? / 2;
+    assert!(rt; generation_fails(alloc, 1, None)?);
+    assert!(rt; generation_fails(alloc, 2, Some(half))?);
     Ok(())
 }
