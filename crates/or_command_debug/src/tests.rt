@@ -95,13 +95,7 @@ fn sessions(rt: HostRuntime) -> Result<(), Fail> {
             b"",
             b"or1k: schedule s turn 4 stopped\n",
         ),
-        (
-            "a3\n",
-            script,
-            4,
-            b"",
-            b"or1k: schedule s core 0 running\n",
-        ),
+        ("a3\n", script, 4, b"", b"or1k: schedule s core 0 running\n"),
     ];
     for (runs, lines, status, written, said) in cases {
         let schedule = recording(alloc, NO_INPUT_DIGEST, runs)?;
@@ -120,12 +114,7 @@ fn each_call_fails_in_turn(rt: HostRuntime) -> Result<(), Fail> {
     let script: &[u8] = b"turn 1\nmem 256 1\ngo\n";
     let schedule = recording(alloc, LETTER_DIGEST, "a4\n")?;
     let cases: [(u64, u8, &[u8], &[u8]); 6] = [
-        (
-            0,
-            0,
-            b"at turn 1\n00000100 18609000\nend turn 4\n",
-            b"",
-        ),
+        (0, 0, b"at turn 1\n00000100 18609000\nend turn 4\n", b""),
         (1, 5, b"", b"or1k: read h.elf\n"),
         (2, 5, b"", b"or1k: read i\n"),
         (3, 5, b"", b"or1k: read s\n"),
