@@ -3,6 +3,7 @@
 
 use or_cli::{FileHost, OpenGate, top};
 use std::env;
+use std::io::ErrorKind;
 use std::process::ExitCode;
 
 const VERSION: &str = "or1k 0.1.0\n";
@@ -67,18 +68,28 @@ fn is_only(words: &[String], word: &str) -> bool {
     }
 }
 
+// Ends before the top call, with a line on standard error.
+fn end(rt: &HostRuntime, status: u8, line: &str) -> ExitCode {
+    let _ = eprintln!(rt; "or1k: {line}");
+    ExitCode::from(status)
+}
+
 fn main(rt: HostRuntime) -> ExitCode {
     let alloc = rt.alloc();
     let mut words = Vec::new(alloc);
-    let Ok(mut args) = env::args(&rt) else {
-        let _ = eprintln!(rt; "or1k: arguments");
-        return ExitCode::from(13);
+    let mut args = match env::args(&rt) {
+        Ok(args) => args,
+        Err(error) => {
+            return match error.kind() {
+                ErrorKind::OutOfMemory => end(&rt, 7, "no memory"),
+                _ => end(&rt, 13, "arguments"),
+            };
+        }
     };
     let _program = args.next();
     for word in args {
         if words.push(word).is_err() {
-            let _ = eprintln!(rt; "or1k: no memory");
-            return ExitCode::from(7);
+            return end(&rt, 7, "no memory");
         }
     }
     if is_only(&words, "--help") {
