@@ -9,6 +9,6 @@ report-requires c =
     let config = c.args.recording.now.head.config in
     let first = start config c.args.image.now c.args.input.now in
     record {
-      follows = can_be_followed config c.args.image.now c.args.input.now c.deref.result.now c.in-Ok.board.cores c.in-Ok.board.bus c.in-Ok.ensures.1
+      follows = can_be_followed config c.args.image.now c.args.input.now c.deref.result.now c.in-Ok.board.cores c.in-Ok.board.bus c.in-Ok.ensures.board.1
           (subst (λ (t : List ℕ). CanFollow first t) (sym c.deref.ensures.value) c.requires.follows);
     }
