@@ -129,3 +129,22 @@ fn each_call_fails_in_turn(rt: HostRuntime) -> Result<(), Fail> {
     }
     Ok(())
 }
+
+// Without an input the script is the third file that is loaded.
+#[test]
+fn calls_without_an_input_fail(rt: HostRuntime) -> Result<(), Fail> {
+    let alloc = rt.alloc();
+    let script: &[u8] = b"turn 1\nmem 256 1\ngo\n";
+    let schedule = recording(alloc, NO_INPUT_DIGEST, "a4\n")?;
+    let cases: [(u64, u8, &[u8], &[u8]); 2] = [
+        (3, 5, b"", b"or1k: read q\n"),
+        (4, 6, b"at turn 1\n00000100 ", b"or1k: write -\n"),
+    ];
+    for (call, status, written, said) in cases {
+        let mut host = host(alloc, &schedule, script, call)?;
+        assert_eq!(rt; debug_silently(alloc, &mut host), status);
+        assert!(rt; host.written() == written);
+        assert!(rt; host.said() == said);
+    }
+    Ok(())
+}
