@@ -143,7 +143,7 @@ fn until_stop<R: Wait>(rt: &R, shared: &Shared, mut unit: Unit, number: u32) -> 
     ensures { Worked (id_of shared.now) (settings_in shared.now) number result }
 {
     let _ = number;
-    work_unit(rt, shared, &mut unit, &OpenGate);
+    work_unit(rt, shared, &mut unit, 1, &OpenGate);
     unit
 }
 
@@ -213,6 +213,10 @@ impl Gate for Meeting {
         }
         self.missed.store(1, Ordering::SeqCst);
     }
+
+    fn single_turns(&self) -> bool {
+        true
+    }
 }
 
 #[test]
@@ -229,6 +233,7 @@ fn two_cores_meet_on_two_threads(rt: HostRuntime) -> Result<(), Fail> {
         &board_of(2),
         &image,
         Vec::new(rt.alloc()),
+        256,
         &gate,
     ) else {
         return Err("opening".into());
@@ -240,25 +245,106 @@ fn two_cores_meet_on_two_threads(rt: HostRuntime) -> Result<(), Fail> {
     Ok(())
 }
 
+// The cores add up, the console says so, and a board that follows the schedule ends as the run did.
+fn check_sums<R: Threads + Wait + Sync>(
+    rt: &R,
+    alloc: Global,
+    cores: u32,
+    stay: u32,
+) -> Result<(), Fail>
+    requires cores { (1 ≤ cores) × (cores ≤ 8) }
+    requires stay { 1 ≤ stay }
+{
+    let image = file(alloc, &ADD)?;
+    let config = board_of(cores);
+    if image.len() != 144 {
+        return Err("the file".into());
+    }
+    let Ok(closed) = run(rt, alloc, &config, &image, Vec::new(alloc), stay, &OpenGate) else {
+        return Err("opening".into());
+    };
+    let [text, console, again, shown] = both_ends(alloc, &config, &image, closed)?;
+    if text != again || console != shown {
+        return Err("the board that follows ends otherwise".into());
+    }
+    if console.len() != cores as usize || !console.contains(&(20 * cores as u8)) {
+        return Err("the sum".into());
+    }
+    Ok(())
+}
+
 #[test]
 fn a_board_follows_the_schedule(rt: HostRuntime) -> Result<(), Fail> {
+    check_sums(&rt, rt.alloc(), 4, 1)
+}
+
+#[test]
+fn a_board_follows_a_schedule_of_stays(rt: HostRuntime) -> Result<(), Fail> {
+    check_sums(&rt, rt.alloc(), 4, 256)
+}
+
+// A wake that is lost leaves a run waiting for ever.
+#[test]
+fn no_wake_is_lost(rt: HostRuntime) -> Result<(), Fail> {
     let image = file(rt.alloc(), &ADD)?;
-    let config = board_of(4);
+    assert!(rt; image.len() == 144);
+    for _ in 0..20 {
+        for stay in [1, 16, 256] {
+            let input = Vec::new(rt.alloc());
+            let Ok(closed) = run(
+                &rt,
+                rt.alloc(),
+                &board_of(8),
+                &image,
+                input,
+                stay,
+                &OpenGate,
+            ) else {
+                return Err("opening".into());
+            };
+            assert!(rt; closed.bus.console().contains(&160));
+        }
+    }
+    Ok(())
+}
+
+// It counts how often it is passed.
+#[derive(Drop)]
+struct Counter {
+    passes: AtomicU64,
+}
+
+impl Gate for Counter {
+    fn pass(&self, _core: u32, _stay: u64) {
+        self.passes.fetch_add(1, Ordering::SeqCst);
+    }
+
+    fn single_turns(&self) -> bool {
+        true
+    }
+}
+
+#[test]
+fn a_gate_of_single_turns_is_passed_before_each(rt: HostRuntime) -> Result<(), Fail> {
+    let gate = Counter {
+        passes: AtomicU64::new(0),
+    };
+    let image = file(rt.alloc(), &ADD)?;
     assert!(rt; image.len() == 144);
     let Ok(closed) = run(
         &rt,
         rt.alloc(),
-        &config,
+        &board_of(4),
         &image,
         Vec::new(rt.alloc()),
-        &OpenGate,
+        256,
+        &gate,
     ) else {
         return Err("opening".into());
     };
-    let [text, console, again, shown] = both_ends(rt.alloc(), &config, &image, closed)?;
-    assert_eq!(rt; text, again);
-    assert_eq!(rt; console, shown);
-    assert_eq!(rt; console.len(), 4);
-    assert!(rt; console.contains(&80));
+    assert_eq!(rt;
+        gate.passes.load(Ordering::SeqCst),
+        closed.schedule.len() as u64
+    );
     Ok(())
 }

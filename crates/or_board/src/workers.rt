@@ -23,19 +23,35 @@ use std::thread::Threads;
 /// So many looks outlast the turns of all other cores, so that who waits seldom sleeps; a sleep and a wake cost far more than a turn.
 const LOOKS: u32 = 4000;
 
+// The most turns of a stay that passes this gate.
+fn most_turns<G: Gate>(stay: u32, gate: &G) -> u32
+    requires { 1 ≤ stay }
+    ensures { (1 ≤ result) × (result ≤ stay) }
+{
+    if gate.single_turns() { 1 } else { stay }
+}
+
 // Works a unit's core until its stop.
-pub(crate) fn work_unit<R: Wait, G: Gate>(rt: &R, shared: &Shared, unit: &mut Unit, gate: &G)
+pub(crate) fn work_unit<R: Wait, G: Gate>(
+    rt: &R,
+    shared: &Shared,
+    unit: &mut Unit,
+    stay: u32,
+    gate: &G,
+)
+    requires stay { 1 ≤ stay }
     requires fits { Fits (settings_in shared.now).config }
     requires starts { Starts (id_of shared.now) (settings_in shared.now) (only_of (view unit.old)) unit.old }
     ensures { Worked (id_of shared.now) (settings_in shared.now) (only_of (view unit.old)) unit.new }
 {
     let number = unit.cores()[0].number();
-    let mut turn = 0;
+    let most = most_turns(stay, gate);
+    let mut stays = 0;
     while unit.cores()[0].stop().is_none() {
-        gate.pass(number, turn);
+        gate.pass(number, stays);
         unit.begin();
-        shared.turn(rt, unit);
-        turn += 1;
+        shared.turn(rt, unit, most);
+        stays += 1;
     }
 }
 
@@ -44,17 +60,19 @@ fn work_all<R: Threads + Wait + Sync, G: Gate + Sync>(
     rt: &R,
     shared: &Shared,
     units: &mut [Unit],
+    stay: u32,
     gate: &G,
 )
+    requires stay { 1 ≤ stay }
     requires fits { Fits (settings_in shared.now).config }
     requires starts { (n : ℕ) (d : _) → n < length units.old → Starts (id_of shared.now) (settings_in shared.now) n (slice_index_or units.old n d) }
     ensures { (n : ℕ) (d : _) → n < length units.old → Worked (id_of shared.now) (settings_in shared.now) n (slice_index_or units.new n d) }
 {
     let threads = units.len().max(1);
     let one = |number: usize, unit: &mut Unit|
-        requires { Fits (settings_in shared.now).config × Starts (id_of shared.now) (settings_in shared.now) number unit.now }
+        requires { (1 ≤ stay) × Fits (settings_in shared.now).config × Starts (id_of shared.now) (settings_in shared.now) number unit.now }
         ensures { Worked (id_of shared.entry.now) (settings_in shared.entry.now) number unit.exit.now }
-    { work_unit(rt, shared, unit, gate) };
+    { work_unit(rt, shared, unit, stay, gate) };
     thread::for_each_mut(rt, units, threads, &one);
 }
 
@@ -85,14 +103,17 @@ fn looks_for<R: Threads>(rt: &R, threads: usize) -> u32 {
     }
 }
 
-/// Works every core until it stops, each on a thread of its own where one can be made, joins all units and closes. The
-/// units are those that the opening of `shared` answered. It waits; it takes no memory.
+/// Works every core until it stops, each on a thread of its own where one can be made, joins all units and closes. A stay at
+/// the bus has at most `stay` turns, at least 1; the gate is passed before each stay. The units are those that the opening of
+/// `shared` answered. It waits; it takes no memory.
 pub fn work<R: Threads + Wait + Sync, G: Gate + Sync>(
     rt: &R,
     mut shared: Shared,
     mut units: Vec<Unit>,
+    stay: u32,
     gate: &G,
 ) -> Closed
+    requires stay { 1 ≤ stay }
     requires fits { Fits (settings_in shared).config }
     requires opened { AreOpened (settings_in shared) shared units }
     ensures run { IsThreadedRun (first_board (settings_in shared)) result }
@@ -101,13 +122,13 @@ pub fn work<R: Threads + Wait + Sync, G: Gate + Sync>(
     ensures order { AreOfBus result.cores.items result.bus }
 {
     shared.set_looks(looks_for(rt, units.len()));
-    work_all(rt, &shared, units.as_mut_slice(), gate);
+    work_all(rt, &shared, units.as_mut_slice(), stay, gate);
     let last = join_all(&shared, units);
     shared.close(last)
 }
 
 /// Opens a board with these settings over an image, with the input for its console, and works every core until it stops.
-/// The image has at most 64 MiB. It waits.
+/// The image has at most 64 MiB. A stay at the bus has at most `stay` turns, at least 1. It waits.
 ///
 /// Errors: Elf exactly where the image has this fault, which is found before memory is taken; NoMemory.
 pub fn run<R: Threads + Wait + Sync, G: Gate + Sync>(
@@ -116,8 +137,10 @@ pub fn run<R: Threads + Wait + Sync, G: Gate + Sync>(
     config: &Config,
     image: &[u8],
     input: Vec<u8>,
+    stay: u32,
     gate: &G,
 ) -> Result<Closed, OpenFault>
+    requires stay { 1 ≤ stay }
     requires fits { Fits config.now }
     requires limit { length image.now ≤ 67108864 }
     ensures run { MatchResult result
@@ -128,7 +151,7 @@ pub fn run<R: Threads + Wait + Sync, G: Gate + Sync>(
     ensures order { IfOk result (λ closed. AreOfBus closed.cores.items closed.bus) }
 {
     match Shared::open(alloc, config, image, input) {
-        Ok((shared, units)) => Ok(work(rt, shared, units, gate)),
+        Ok((shared, units)) => Ok(work(rt, shared, units, stay, gate)),
         Err(fault) => Err(fault),
     }
 }

@@ -67,6 +67,7 @@ module _ (st : Settings) where
         fits = kept.fits;
         now = n';
         words = kept.words;
+        are_stays = kept.are_stays;
         most = kept.most;
         defined = kept.defined;
         others = kept.others;
@@ -121,7 +122,7 @@ module _ (st : Settings) where
               once = o.once;
               seen = o.seen;
               told = o.told;
-              stage = stage_same n n' y.cores y.seen y.stage refl refl refl o.stage;
+              stage = stage_same n n' y.cores y.seen y.stage refl refl refl refl o.stage;
             })
             j x e not);
         slot = slot_still st n n' n.held s record { words = s.words; homes = s.homes; views = set vs other spent_view } refl refl
@@ -154,6 +155,7 @@ module _ (st : Settings) where
           fits = kept.fits;
           now = n;
           words = set-get_or s.words 0 0 ∙ kept.words;
+          are_stays = kept.are_stays;
           most = kept.most;
           defined = kept.defined;
           others = kept.others;

@@ -1,6 +1,7 @@
 pub mod Replays
 pub mod Steps
 pub mod Lengths
+pub mod Stays
 pub mod Blocks
 pub mod Counts
 pub mod Seats

@@ -25,15 +25,15 @@ lt_at (y ∷ ys) zero h = (y, refl)
 lt_at (y ∷ ys) (suc i) h = lt_at ys i (omega arith)
 
 -- where the ticket of a view stands in the queue
-place_of : (n : Witness) (mine seen : List ℕ) (x : Stage) (serving t : ℕ) → serving ≡ length n.schedule → StageHolds n mine seen x → HasTicket serving t x
-    → (c : ℕ) × (mine ≡ c ∷ []) × (length n.schedule ≤ t) × (get_elem? n.queue (t - length n.schedule) ≡ some c)
+place_of : (n : Witness) (mine seen : List ℕ) (x : Stage) (serving t : ℕ) → serving ≡ length n.stays → StageHolds n mine seen x → HasTicket serving t x
+    → (c : ℕ) × (mine ≡ c ∷ []) × (length n.stays ≤ t) × (get_elem? n.queue (t - length n.stays) ≡ some c)
 place_of n mine seen Idle serving t e k h = absurd h
 place_of n mine seen (Joined _) serving t e k h = absurd h
 place_of n mine seen Spent serving t e k h = absurd h
-place_of n mine seen (Waits u) serving t e k h = (k.0, k.1, (let l = k.2 in omega arith), ap (λ (i : ℕ). get_elem? n.queue (i - length n.schedule)) (sym h) ∙ k.3)
-place_of n mine seen Holds serving t e k h = (k.0, k.1, omega arith, ap (get_elem? n.queue) (let z : t - length n.schedule ≡ 0 = omega arith in z) ∙ k.3)
+place_of n mine seen (Waits u) serving t e k h = (k.0, k.1, (let l = k.2 in omega arith), ap (λ (i : ℕ). get_elem? n.queue (i - length n.stays)) (sym h) ∙ k.3)
+place_of n mine seen Holds serving t e k h = (k.0, k.1, omega arith, ap (get_elem? n.queue) (let z : t - length n.stays ≡ 0 = omega arith in z) ∙ k.3)
 
-has_ticket : (n : Witness) (i : ℕ) (x : Stage) (serving t : ℕ) → serving ≡ length n.schedule → t ≡ length n.schedule + i → InTurn n i x → HasTicket serving t x
+has_ticket : (n : Witness) (i : ℕ) (x : Stage) (serving t : ℕ) → serving ≡ length n.stays → t ≡ length n.stays + i → InTurn n i x → HasTicket serving t x
 has_ticket n i Idle serving t e f h = h
 has_ticket n i (Joined _) serving t e f h = h
 has_ticket n i Spent serving t e f h = h
@@ -51,16 +51,16 @@ module _ (st : Settings) (s : State (Option Transfer) View) (kept : RuleHolds st
   abbrev n : Witness
   n = kept.now
 
-  w0 : get_or s.words 0 0 ≡ length n.schedule + length n.queue
+  w0 : get_or s.words 0 0 ≡ length n.stays + length n.queue
   w0 = ap (λ (ws : List ℕ). get_or ws 0 0) kept.words
 
-  w1 : get_or s.words 1 0 ≡ length n.schedule
+  w1 : get_or s.words 1 0 ≡ length n.stays
   w1 = ap (λ (ws : List ℕ). get_or ws 1 0) kept.words
 
   w2 : get_or s.words 2 0 ≡ n.enrolled
   w2 = ap (λ (ws : List ℕ). get_or ws 2 0) kept.words
 
-  place : (j t : ℕ) (v : View) → At s j v → HasTicket (get_or s.words 1 0) t v.stage → (c : ℕ) × (v.cores ≡ c ∷ []) × (length n.schedule ≤ t) × (get_elem? n.queue (t - length n.schedule) ≡ some c)
+  place : (j t : ℕ) (v : View) → At s j v → HasTicket (get_or s.words 1 0) t v.stage → (c : ℕ) × (v.cores ≡ c ∷ []) × (length n.stays ≤ t) × (get_elem? n.queue (t - length n.stays) ≡ some c)
   place j t v at h = place_of n v.cores v.seen v.stage (get_or s.words 1 0) t w1 (kept.each j v at).stage h
 
   home_at : (b : Bool) → n.held ≡ b → SlotIs st n b s → (((j : ℕ) → Has s.views j (λ v. IsHolder v.stage) → ⊥) → (transfer : Transfer) × (s.homes ≡ some (Some transfer) ∷ []) × SlotHolds st n.schedule transfer)
@@ -74,6 +74,7 @@ module _ (st : Settings) (s : State (Option Transfer) View) (kept : RuleHolds st
   pub parts : Parts st s
   parts = record {
     schedule = n.schedule;
+    stays = n.stays;
     one_mark = λ i j a b v w p q x y. ((kept.each i v p).opening a x).0 ∙ sym ((kept.each j w q).opening b y).0;
     mark_counts = λ j a v p x. let e = (kept.each j v p).opening a x in e.1 ∙ sym w2;
     enrolled_most = let m = kept.most in let e = w2 in omega arith;
@@ -84,15 +85,16 @@ module _ (st : Settings) (s : State (Option Transfer) View) (kept : RuleHolds st
     none_else = λ c h. kept.others c (let e = w2 in omega arith);
     same_settings = λ j v p x. live st n j v (kept.each j v p) x;
     served = w1;
-    ticket_between = λ j t v p x. let k = place j t v p x in let low = k.2 in let l = at_lt n.queue (t - length n.schedule) k.0 k.3 in let a = w0 in let b = w1 in (omega arith, omega arith);
-    each_ticket = λ t low high. let a = w0 in let b = w1 in let k = lt_at n.queue (t - length n.schedule) (omega arith) in let h = kept.waiting (t - length n.schedule) k.0 k.1 in
-        (n.owner k.0, (h.0, h.1, has_ticket n (t - length n.schedule) h.0.stage (get_or s.words 1 0) t w1 (omega arith) h.2));
+    ticket_between = λ j t v p x. let k = place j t v p x in let low = k.2 in let l = at_lt n.queue (t - length n.stays) k.0 k.3 in let a = w0 in let b = w1 in (omega arith, omega arith);
+    each_ticket = λ t low high. let a = w0 in let b = w1 in let k = lt_at n.queue (t - length n.stays) (omega arith) in let h = kept.waiting (t - length n.stays) k.0 k.1 in
+        (n.owner k.0, (h.0, h.1, has_ticket n (t - length n.stays) h.0.stage (get_or s.words 1 0) t w1 (omega arith) h.2));
     one_ticket = λ i j t v w p q x y. let a = place i t v p x in let b = place j t w q y in let same : a.0 ≡ b.0 = some-injective a.0 b.0 (sym a.3 ∙ b.3) in
         one_owner st n i j b.0 v w (kept.each i v p) (kept.each j w q) (only b.0 v.cores (a.1 ∙ ap (λ (c : ℕ). c ∷ []) same)) (only b.0 w.cores b.1);
-    one_core = λ j t v p x. let k = place j t v p x in (k.0, k.1, (kept.queued (t - length n.schedule) k.0 k.3).1);
+    one_core = λ j t v p x. let k = place j t v p x in (k.0, k.1, (kept.queued (t - length n.stays) k.0 k.3).1);
     home = home_at n.held refl kept.slot;
     holder_seen = λ j v p x. (holder_seen n v.cores v.seen v.stage (kept.each j v p).stage x).0;
     out = out_at n.held refl kept.slot;
+    are_stays = kept.are_stays;
     defined = kept.defined;
     seen = λ j v p. (kept.each j v p).seen;
     told = λ j c v p x. (kept.each j v p).told c x;

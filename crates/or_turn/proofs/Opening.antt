@@ -22,10 +22,11 @@ use Rattle.or_turn.proofs.Seats.{put, put_here, put_else, has_me, has_still, eac
 
 -- before any step
 pub starts : (k : OpenedWith) (transfer : Transfer) → Fits (settings_of k).config → SlotHolds (settings_of k) [] transfer → Turns k (opening (0 ∷ 0 ∷ 0 ∷ []) (Some transfer ∷ []) (first_view k))
-starts k transfer fits slot_holds = let n : Witness = record { schedule = []; queue = []; enrolled = 0; owner = λ _. 0; opener = 0; held = false } in record {
+starts k transfer fits slot_holds = let n : Witness = record { schedule = []; stays = []; queue = []; enrolled = 0; owner = λ _. 0; opener = 0; held = false } in record {
   fits = fits;
   now = n;
   words = refl;
+  are_stays = record { some_turn = λ i d h. absurd (omega arith); turns = refl };
   most = omega arith;
   defined = defined_none (settings_of k);
   others = λ c h. count_none c;
@@ -37,8 +38,8 @@ starts k transfer fits slot_holds = let n : Witness = record { schedule = []; qu
   slot = (transfer, refl, slot_holds);
 }
   where
-    first : (j : ℕ) (v : View) → get_elem? (first_view k ∷ []) j ≡ some v → SeatKnows (settings_of k) (record { schedule = []; queue = []; enrolled = 0; owner = λ _. 0; opener = 0; held = false }) j v
-    first zero v e = subst (SeatKnows (settings_of k) (record { schedule = []; queue = []; enrolled = 0; owner = λ _. 0; opener = 0; held = false }) 0) (some-injective (first_view k) v e) (record {
+    first : (j : ℕ) (v : View) → get_elem? (first_view k ∷ []) j ≡ some v → SeatKnows (settings_of k) (record { schedule = []; stays = []; queue = []; enrolled = 0; owner = λ _. 0; opener = 0; held = false }) j v
+    first zero v e = subst (SeatKnows (settings_of k) (record { schedule = []; stays = []; queue = []; enrolled = 0; owner = λ _. 0; opener = 0; held = false }) 0) (some-injective (first_view k) v e) (record {
       settings = inr refl;
       opening = λ i o. (refl, let z : 0 ≡ i = cc in sym z);
       cores = λ c h. absurd (count_zero c h);
@@ -63,13 +64,13 @@ pub idle_holds : (x : Stage) → x ≡ Idle → IsHolder x → ⊥
 idle_holds x e = subst (λ (y : Stage). IsHolder y → ⊥) (sym e) (λ h. h)
 
 -- a stage that depends on the parts of the moment that are the same
-pub stage_same : (n n' : Witness) (mine seen : List ℕ) (x : Stage) → n'.schedule ≡ n.schedule → n'.queue ≡ n.queue → n'.held ≡ n.held → StageHolds n mine seen x → StageHolds n' mine seen x
-stage_same n n' mine seen Idle s q h k = tt
-stage_same n n' mine seen Spent s q h k = tt
-stage_same n n' mine seen (Joined x) s q h k = subst (λ (xs : List ℕ). AreJoined xs mine seen x) (sym s) k
-stage_same n n' mine seen (Waits t) s q h k = let l : length n'.schedule ≡ length n.schedule = ap (λ (xs : List ℕ). length xs) s in
-    (k.0, k.1, (let a = k.2 in omega arith), ap (λ (xs : List ℕ). get_elem? xs (t - length n'.schedule)) q ∙ (ap (λ (i : ℕ). get_elem? n.queue (t - i)) l ∙ k.3))
-stage_same n n' mine seen Holds s q h k = (k.0, k.1, k.2 ∙ sym s, ap (λ (xs : List ℕ). get_elem? xs 0) q ∙ k.3, h ∙ k.4)
+pub stage_same : (n n' : Witness) (mine seen : List ℕ) (x : Stage) → n'.schedule ≡ n.schedule → n'.stays ≡ n.stays → n'.queue ≡ n.queue → n'.held ≡ n.held → StageHolds n mine seen x → StageHolds n' mine seen x
+stage_same n n' mine seen Idle s z q h k = tt
+stage_same n n' mine seen Spent s z q h k = tt
+stage_same n n' mine seen (Joined x) s z q h k = subst (λ (xs : List ℕ). AreJoined xs mine seen x) (sym s) k
+stage_same n n' mine seen (Waits t) s z q h k = let l : length n'.stays ≡ length n.stays = ap (λ (xs : List (ℕ × ℕ)). length xs) z in
+    (k.0, k.1, (let a = k.2 in omega arith), ap (λ (xs : List ℕ). get_elem? xs (t - length n'.stays)) q ∙ (ap (λ (i : ℕ). get_elem? n.queue (t - i)) l ∙ k.3))
+stage_same n n' mine seen Holds s z q h k = (k.0, k.1, k.2 ∙ sym s, ap (λ (xs : List ℕ). get_elem? xs 0) q ∙ k.3, h ∙ k.4)
 
 module _ (st : Settings) where
   pub enrols : (slots id : ℕ) (me : SeatState) (k : ℕ) → me.0.stage ≡ Idle → me.0.cores ≡ [] → me.0.opening ≡ Some k → k < me.0.settings.config.cores
@@ -87,7 +88,8 @@ module _ (st : Settings) where
         record {
           fits = kept.fits;
           now = n';
-          words = ap (λ (ws : List ℕ). set ws 2 ((x + 1) % 18446744073709551616)) kept.words ∙ ap (λ (y : ℕ). (length n.schedule + length n.queue) ∷ length n.schedule ∷ y ∷ []) next;
+          words = ap (λ (ws : List ℕ). set ws 2 ((x + 1) % 18446744073709551616)) kept.words ∙ ap (λ (y : ℕ). (length n.stays + length n.queue) ∷ length n.stays ∷ y ∷ []) next;
+          are_stays = kept.are_stays;
           most = omega arith;
           defined = kept.defined;
           others = λ c h. kept.others c (omega arith);
@@ -117,7 +119,7 @@ module _ (st : Settings) where
                 once = o.once;
                 seen = o.seen;
                 told = o.told;
-                stage = stage_same n n' v.cores v.seen v.stage refl refl refl o.stage;
+                stage = stage_same n n' v.cores v.seen v.stage refl refl refl refl o.stage;
               });
           slot = slot_still st n n' n.held s record { words = set s.words 2 ((x + 1) % 18446744073709551616); homes = s.homes; views = set s.views id w } refl refl
               (λ j h. (j, has_still s.views id me.0 w at j (λ v. IsHolder v.stage) (λ v. IsHolder v.stage) (λ v z. z) (λ z. z) h)) kept.slot;
@@ -125,12 +127,12 @@ module _ (st : Settings) where
         (refl, refl, mark ∙ (let z : k ≡ x = omega arith in ap (λ (y : ℕ). let r : Option ℕ = Some y in r) z)),
       )
     where
-      turn_same : (n n' : Witness) (i : ℕ) (x : Stage) → n'.schedule ≡ n.schedule → InTurn n i x → InTurn n' i x
+      turn_same : (n n' : Witness) (i : ℕ) (x : Stage) → n'.stays ≡ n.stays → InTurn n i x → InTurn n' i x
       turn_same n n' i Idle e h = h
       turn_same n n' i Spent e h = h
       turn_same n n' i (Joined x) e h = h
       turn_same n n' i Holds e h = h
-      turn_same n n' i (Waits t) e h = h ∙ ap (λ (xs : List ℕ). length xs + i) (sym e)
+      turn_same n n' i (Waits t) e h = h ∙ ap (λ (xs : List (ℕ × ℕ)). length xs + i) (sym e)
 
   pub splits : (id : ℕ) (v : View) (k : ℕ) → v.opening ≡ Some k → (v.stage ≡ Idle) → Splits (RuleHolds st) id v (closed_view v) (next_view v)
   splits id v k mark idle s kept at =
@@ -141,6 +143,7 @@ module _ (st : Settings) where
         fits = kept.fits;
         now = n';
         words = kept.words;
+        are_stays = kept.are_stays;
         most = kept.most;
         defined = kept.defined;
         others = kept.others;
@@ -166,7 +169,7 @@ module _ (st : Settings) where
               once = o.once;
               seen = o.seen;
               told = o.told;
-              stage = stage_same n n' y.cores y.seen y.stage refl refl refl o.stage;
+              stage = stage_same n n' y.cores y.seen y.stage refl refl refl refl o.stage;
             })
             j x t (at_lt vs j x t))
             (λ (t : (j ≡ length vs) × (new ≡ x)). subst (λ (p : ℕ × View). SeatKnows st n' p.0 p.1) (λ i. (sym t.0 i, t.1 i)) (record {

@@ -93,17 +93,17 @@ pub one_owner : (st : Settings) (n : Witness) (i j c : ℕ) (v w : View) → Sea
 one_owner st n i j c v w a b p q = sym (a.cores c p).1 ∙ (b.cores c q).1
 
 -- the stage under a longer queue
-pub stage_longer : (n n' : Witness) (more : List ℕ) (mine seen : List ℕ) (x : Stage) → n'.schedule ≡ n.schedule → n'.held ≡ n.held → n'.queue ≡ n.queue ++ more → StageHolds n mine seen x → StageHolds n' mine seen x
-stage_longer n n' more mine seen Idle s h q k = tt
-stage_longer n n' more mine seen Spent s h q k = tt
-stage_longer n n' more mine seen (Joined x) s h q k = subst (λ (xs : List ℕ). AreJoined xs mine seen x) (sym s) k
-stage_longer n n' more mine seen (Waits t) s h q k = let l : length n'.schedule ≡ length n.schedule = ap (λ (xs : List ℕ). length xs) s in (
+pub stage_longer : (n n' : Witness) (more : List ℕ) (mine seen : List ℕ) (x : Stage) → n'.schedule ≡ n.schedule → n'.stays ≡ n.stays → n'.held ≡ n.held → n'.queue ≡ n.queue ++ more → StageHolds n mine seen x → StageHolds n' mine seen x
+stage_longer n n' more mine seen Idle s z h q k = tt
+stage_longer n n' more mine seen Spent s z h q k = tt
+stage_longer n n' more mine seen (Joined x) s z h q k = subst (λ (xs : List ℕ). AreJoined xs mine seen x) (sym s) k
+stage_longer n n' more mine seen (Waits t) s z h q k = let l : length n'.stays ≡ length n.stays = ap (λ (xs : List (ℕ × ℕ)). length xs) z in (
   k.0,
   k.1,
   (let a = k.2 in omega arith),
-  ap (λ (xs : List ℕ). get_elem? xs (t - length n'.schedule)) q ∙ (ap (λ (i : ℕ). get_elem? (n.queue ++ more) (t - i)) l ∙ at_longer n.queue more (t - length n.schedule) k.0 k.3),
+  ap (λ (xs : List ℕ). get_elem? xs (t - length n'.stays)) q ∙ (ap (λ (i : ℕ). get_elem? (n.queue ++ more) (t - i)) l ∙ at_longer n.queue more (t - length n.stays) k.0 k.3),
 )
-stage_longer n n' more mine seen Holds s h q k = (k.0, k.1, k.2 ∙ sym s, ap (λ (xs : List ℕ). get_elem? xs 0) q ∙ at_longer n.queue more 0 k.0 k.3, h ∙ k.4)
+stage_longer n n' more mine seen Holds s z h q k = (k.0, k.1, k.2 ∙ sym s, ap (λ (xs : List ℕ). get_elem? xs 0) q ∙ at_longer n.queue more 0 k.0 k.3, h ∙ k.4)
 
 abbrev St : Type 0
 St = State (Option Transfer) View

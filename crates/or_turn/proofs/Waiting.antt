@@ -13,12 +13,13 @@ use Rattle.or_model.specs.Core.{Core}
 use Rattle.or_turn.specs.Schedules.{IsDefined, count, core_at, board_of}
 use Rattle.or_turn.proofs.Replays.{count_same, count_other, count_append}
 use Rattle.or_turn.proofs.Lengths.{AllBelow, length_most}
-use Rattle.or_turn.proofs.Steps.{count_budget, count_running}
+use Rattle.or_turn.proofs.Steps.{entries_below, count_budget, count_running}
+use Rattle.or_turn.proofs.Stays.{few_stays}
 use Rattle.or_turn.specs.declared.view.Transfer.{Transfer}
 use Rattle.or_turn.specs.declared.view.Stage.{Stage}
 use Rattle.or_turn.specs.declared.view.Stage.TheVariants.{Idle, Waits, Holds, Joined, Spent}
 use Rattle.or_turn.specs.declared.view.View.{View}
-use Rattle.or_turn.specs.Rule.{SlotHolds, Witness, StageHolds, AreJoined, SeatKnows, InTurn, IsHolder, Has, SlotIs, RuleHolds}
+use Rattle.or_turn.specs.Rule.{SlotHolds, Witness, StageHolds, AreStays, AreJoined, SeatKnows, InTurn, IsHolder, Has, SlotIs, RuleHolds}
 use Rattle.or_words.specs.Settings.{Fits}
 use Rattle.or_turn.specs.Told.{SeatState, waiting_view, holding_view, drew, looked, ticket}
 use Rattle.or_turn.proofs.Counts.{begins_all, count_snoc, count_one, count_one_most, count_at, snoc_at, below_at, below_counts, below_append, below_weaken, core_told}
@@ -30,41 +31,40 @@ pub only : (c : ℕ) (mine : List ℕ) → mine ≡ c ∷ [] → 0 < count c min
 only c mine e = let one : count c mine ≡ 1 = ap (count c) e ∙ count_same c in omega arith
 
 -- the tickets drawn are few
-pub few_tickets : (st : Settings) (n : Witness) → Fits st.config → n.enrolled ≤ st.config.cores → IsDefined st n.schedule → ((c : ℕ) → n.enrolled ≤ c → count c n.schedule ≡ 0)
-    → ((i c : ℕ) → get_elem? n.queue i ≡ some c → c < n.enrolled) → ((c : ℕ) → count c n.queue ≤ 1) → length n.schedule + length n.queue ≤ 536870920
-few_tickets st n fits most defined others queued once =
+pub few_tickets : (st : Settings) (n : Witness) → Fits st.config → AreStays n.stays n.schedule → n.enrolled ≤ st.config.cores → IsDefined st n.schedule → ((c : ℕ) → n.enrolled ≤ c → count c n.schedule ≡ 0)
+    → ((i c : ℕ) → get_elem? n.queue i ≡ some c → c < n.enrolled) → ((c : ℕ) → count c n.queue ≤ 1) → length n.stays + length n.queue ≤ 536870920
+few_tickets st n fits stays most defined others queued once =
     let xs : List ℕ = n.schedule ++ n.queue in
     let below : AllBelow st.config.cores xs = below_append st.config.cores n.schedule n.queue (below_weaken n.enrolled st.config.cores n.schedule most (below_counts n.enrolled n.schedule others)) (below_weaken n.enrolled st.config.cores n.queue most (below_at n.enrolled n.queue queued)) in
     let short = length_most st.config.cores (st.config.budget + 1) xs below (λ c h. let a = count_budget st fits n.schedule defined c h in let b = once c in let e = count_append c n.schedule n.queue in omega arith) in
     let sum = length-append n.schedule n.queue in let few = fits.few_cores in let steps = fits.few_steps in
-    let top : st.config.cores * (st.config.budget + 1) ≤ 8 * 67108865 = grind arith in omega arith
+    let top : st.config.cores * (st.config.budget + 1) ≤ 8 * 67108865 = grind arith in let fewer = few_stays n.stays n.schedule stays in omega arith
 
 -- a core that runs has a turn left, so the schedule is not full
-left_over : (st : Settings) (fits : Fits st.config) (xs : List ℕ) → IsDefined st xs → (enrolled : ℕ) → enrolled ≤ st.config.cores → ((c : ℕ) → enrolled ≤ c → count c xs ≡ 0) → (c : ℕ) → c < enrolled
-    → (core_at (board_of st xs).cores c).stop ≡ None → length xs < st.config.cores * st.config.budget
-left_over st fits xs defined enrolled most others c h runs =
-    let below : AllBelow st.config.cores (xs ++ c ∷ []) = below_append st.config.cores xs (c ∷ []) (below_weaken enrolled st.config.cores xs most (below_counts enrolled xs others)) (omega arith, tt) in
+pub left_over : (st : Settings) (fits : Fits st.config) (xs : List ℕ) → IsDefined st xs → (c : ℕ) → c < st.config.cores → (core_at (board_of st xs).cores c).stop ≡ None → length xs < st.config.cores * st.config.budget
+left_over st fits xs defined c h runs =
+    let below : AllBelow st.config.cores (xs ++ c ∷ []) = below_append st.config.cores xs (c ∷ []) (entries_below st fits xs defined) (h, tt) in
     let short = length_most st.config.cores st.config.budget (xs ++ c ∷ []) below (λ d z. let sum = count_snoc d c xs in dite (ℕ_discrete c d)
-    (λ e. let few : count d xs < st.config.budget = subst (λ (y : ℕ). count y xs < st.config.budget) e (count_running st fits xs defined c (omega arith) runs) in let l = count_one_most d c in omega arith)
+    (λ e. let few : count d xs < st.config.budget = subst (λ (y : ℕ). count y xs < st.config.budget) e (count_running st fits xs defined c h runs) in let l = count_one_most d c in omega arith)
     (λ other. let none : count d (c ∷ []) ≡ 0 = count_other d c other in let few = count_budget st fits xs defined d z in omega arith)) in
     let sum = length-append xs (c ∷ []) in omega arith
 
 waits_spent : (t : ℕ) (x : Stage) → x ≡ Waits t → x ≡ Spent → ⊥
 waits_spent t x a b = cc
 
-still_turn : (n n' : Witness) (i : ℕ) (x : Stage) → n'.schedule ≡ n.schedule → InTurn n i x → InTurn n' i x
+still_turn : (n n' : Witness) (i : ℕ) (x : Stage) → n'.stays ≡ n.stays → InTurn n i x → InTurn n' i x
 still_turn n n' i Idle e h = h
 still_turn n n' i Spent e h = h
 still_turn n n' i (Joined x) e h = h
 still_turn n n' i Holds e h = h
-still_turn n n' i (Waits t) e h = h ∙ ap (λ (xs : List ℕ). length xs + i) (sym e)
+still_turn n n' i (Waits t) e h = h ∙ ap (λ (xs : List (ℕ × ℕ)). length xs + i) (sym e)
 
-stage_held : (n n' : Witness) (mine seen : List ℕ) (x : Stage) → n'.schedule ≡ n.schedule → n'.queue ≡ n.queue → n'.held ≡ true → StageHolds n mine seen x → StageHolds n' mine seen x
-stage_held n n' mine seen Idle s q h k = tt
-stage_held n n' mine seen Spent s q h k = tt
-stage_held n n' mine seen (Joined x) s q h k = subst (λ (xs : List ℕ). AreJoined xs mine seen x) (sym s) k
-stage_held n n' mine seen (Waits t) s q h k = stage_same n (record n' { held = n.held }) mine seen (Waits t) s q refl k
-stage_held n n' mine seen Holds s q h k = (k.0, k.1, k.2 ∙ sym s, ap (λ (xs : List ℕ). get_elem? xs 0) q ∙ k.3, h)
+stage_held : (n n' : Witness) (mine seen : List ℕ) (x : Stage) → n'.schedule ≡ n.schedule → n'.stays ≡ n.stays → n'.queue ≡ n.queue → n'.held ≡ true → StageHolds n mine seen x → StageHolds n' mine seen x
+stage_held n n' mine seen Idle s z q h k = tt
+stage_held n n' mine seen Spent s z q h k = tt
+stage_held n n' mine seen (Joined x) s z q h k = subst (λ (xs : List ℕ). AreJoined xs mine seen x) (sym s) k
+stage_held n n' mine seen (Waits t) s z q h k = stage_same n (record n' { held = n.held }) mine seen (Waits t) s z q refl k
+stage_held n n' mine seen Holds s z q h k = (k.0, k.1, k.2 ∙ sym s, ap (λ (xs : List ℕ). get_elem? xs 0) q ∙ k.3, h)
 
 module _ (st : Settings) where
   pub draws : (slots id : ℕ) (me : SeatState) (c : ℕ) → me.0.stage ≡ Idle → me.0.cores ≡ c ∷ [] → (core_at (board_of (me.0.settings) me.0.seen).cores c).stop ≡ None
@@ -73,10 +73,10 @@ module _ (st : Settings) where
       let n : Witness = kept.now in let mine : SeatKnows st n id me.0 = kept.each id me.0 at in
       let is : me.0.settings ≡ st = live st n id me.0 mine (not_spent me.0 idle) in
       let has : 0 < count c me.0.cores = only c me.0.cores one in let own = mine.cores c has in let own_in = own.0 in let own_at = own.1 in
-      let x : ℕ = get_or s.words 0 0 in let found : x ≡ length n.schedule + length n.queue = ap (λ (ws : List ℕ). get_or ws 0 0) kept.words in
-      let few = few_tickets st n kept.fits kept.most kept.defined kept.others (λ i d e. (kept.queued i d e).0) kept.once in
+      let x : ℕ = get_or s.words 0 0 in let found : x ≡ length n.stays + length n.queue = ap (λ (ws : List ℕ). get_or ws 0 0) kept.words in
+      let few = few_tickets st n kept.fits kept.are_stays kept.most kept.defined kept.others (λ i d e. (kept.queued i d e).0) kept.once in
       let grown : length (n.queue ++ c ∷ []) ≡ length n.queue + 1 = length-append n.queue (c ∷ []) in
-      let next : (x + 1) % 18446744073709551616 ≡ length n.schedule + length (n.queue ++ c ∷ []) = omega arith in
+      let next : (x + 1) % 18446744073709551616 ≡ length n.stays + length (n.queue ++ c ∷ []) = omega arith in
       let n' : Witness = record n { queue = n.queue ++ c ∷ [] } in let w : View = waiting_view me.0 x in
       let absent : (i : ℕ) → get_elem? n.queue i ≡ some c → ⊥ = λ i e. let h = kept.waiting i c e in
       idle_waits n i h.0.stage (ap (λ (v : View). v.stage) (sym (same_at s.views id (n.owner c) me.0 h.0 at h.1 (sym own_at))) ∙ idle) h.2 in
@@ -88,7 +88,8 @@ module _ (st : Settings) where
         record {
           fits = kept.fits;
           now = n';
-          words = ap (λ (ws : List ℕ). set ws 0 ((x + 1) % 18446744073709551616)) kept.words ∙ ap (λ (y : ℕ). y ∷ length n.schedule ∷ n.enrolled ∷ []) next;
+          words = ap (λ (ws : List ℕ). set ws 0 ((x + 1) % 18446744073709551616)) kept.words ∙ ap (λ (y : ℕ). y ∷ length n.stays ∷ n.enrolled ∷ []) next;
+          are_stays = kept.are_stays;
           most = kept.most;
           defined = kept.defined;
           others = kept.others;
@@ -101,7 +102,7 @@ module _ (st : Settings) where
           waiting = λ i d e. ⊎_elim
               (λ (t : get_elem? n.queue i ≡ some d). has_still s.views id me.0 w at (n.owner d) (λ v. InTurn n i v.stage) (λ v. InTurn n' i v.stage) (λ v z. in_turn n n' i v.stage refl z) (λ z. absurd (idle_waits n i me.0.stage idle z)) (kept.waiting i d t))
               (λ (t : (i ≡ length n.queue) × (c ≡ d)). subst (λ (j : ℕ). Has (set s.views id w) j (λ v. InTurn n' i v.stage)) (sym own_at ∙ ap n.owner t.1)
-              (has_me s.views id me.0 w at (λ v. InTurn n' i v.stage) (let l = t.0 in let z : x ≡ length n.schedule + i = omega arith in z)))
+              (has_me s.views id me.0 w at (λ v. InTurn n' i v.stage) (let l = t.0 in let z : x ≡ length n.stays + i = omega arith in z)))
               (snoc_at n.queue c i d e);
           each = each_still s.views id me.0 w at (SeatKnows st n')
               (record {
@@ -111,7 +112,7 @@ module _ (st : Settings) where
                 once = mine.once;
                 seen = mine.seen;
                 told = mine.told;
-                stage = (c, one, omega arith, at_last n.queue c (x - length n.schedule) (omega arith));
+                stage = (c, one, omega arith, at_last n.queue c (x - length n.stays) (omega arith));
               })
               (λ j v other e. let o = kept.each j v e in record {
                 settings = o.settings;
@@ -120,7 +121,7 @@ module _ (st : Settings) where
                 once = o.once;
                 seen = o.seen;
                 told = o.told;
-                stage = stage_longer n n' (c ∷ []) v.cores v.seen v.stage refl refl refl o.stage;
+                stage = stage_longer n n' (c ∷ []) v.cores v.seen v.stage refl refl refl refl o.stage;
               });
           slot = slot_still st n n' n.held s record { words = set s.words 0 ((x + 1) % 18446744073709551616); homes = s.homes; views = set s.views id w } refl refl
               (λ j h. (j, has_still s.views id me.0 w at j (λ v. IsHolder v.stage) (λ v. IsHolder v.stage) (λ v z. z) (λ z. absurd (idle_holds me.0.stage idle z)) h)) kept.slot;
@@ -128,17 +129,17 @@ module _ (st : Settings) where
         (refl, refl),
       )
     where
-      in_turn : (n n' : Witness) (i : ℕ) (x : Stage) → n'.schedule ≡ n.schedule → InTurn n i x → InTurn n' i x
+      in_turn : (n n' : Witness) (i : ℕ) (x : Stage) → n'.stays ≡ n.stays → InTurn n i x → InTurn n' i x
       in_turn n n' i Idle e h = h
       in_turn n n' i Spent e h = h
       in_turn n n' i (Joined x) e h = h
       in_turn n n' i Holds e h = h
-      in_turn n n' i (Waits t) e h = h ∙ ap (λ (xs : List ℕ). length xs + i) (sym e)
+      in_turn n n' i (Waits t) e h = h ∙ ap (λ (xs : List (ℕ × ℕ)). length xs + i) (sym e)
 
   pub looks : (slots id : ℕ) (me : SeatState) (t : ℕ) → me.0.stage ≡ Waits t → me.1 ≡ [] → Allows (RuleHolds st) slots id me 1 (λ x. x) (looked (step slots 1 0 0 none) me)
   looks slots id me t waits bare s kept _ at _ =
       let n : Witness = kept.now in let mine : SeatKnows st n id me.0 = kept.each id me.0 at in
-      let x : ℕ = get_or s.words 1 0 in let found : x ≡ length n.schedule = ap (λ (ws : List ℕ). get_or ws 1 0) kept.words in
+      let x : ℕ = get_or s.words 1 0 in let found : x ≡ length n.stays = ap (λ (ws : List ℕ). get_or ws 1 0) kept.words in
       let stays : set s.words 1 x ≡ s.words = set-get_or s.words 1 0 in
       let ticket_is : ticket me.0.stage ≡ t = ap ticket waits in
       dite (ℕ_discrete x t) (λ hit. take s kept at x found stays ticket_is hit n.held refl kept.slot) (λ miss. (
@@ -149,12 +150,12 @@ module _ (st : Settings) where
         ((λ e. absurd (miss (e ∙ ticket_is))), λ _. refl),
       ))
     where
-      take : (s : State (Option Transfer) View) (kept : RuleHolds st s) → get_elem? s.views id ≡ some me.0 → (x : ℕ) → x ≡ length kept.now.schedule → set s.words 1 x ≡ s.words → ticket me.0.stage ≡ t → x ≡ t
+      take : (s : State (Option Transfer) View) (kept : RuleHolds st s) → get_elem? s.views id ≡ some me.0 → (x : ℕ) → x ≡ length kept.now.stays → set s.words 1 x ≡ s.words → ticket me.0.stage ≡ t → x ≡ t
           → (b : Bool) → kept.now.held ≡ b → SlotIs st kept.now b s
           → (w : View) × (a : Act (Option Transfer)) × Valid s.homes me.1 a × RuleHolds st (stepped s 1 x id me.1 w a) × looked (step slots 1 0 0 none) me x (w, carried_after me.1 a)
       take s kept at x found stays ticket_is hit true h slot =
           let n : Witness = kept.now in let mine : SeatKnows st n id me.0 = kept.each id me.0 at in let k = subst (StageHolds n me.0.cores me.0.seen) waits mine.stage in let c : ℕ = k.0 in
-          let first : get_elem? n.queue 0 ≡ some c = ap (get_elem? n.queue) (let z : 0 ≡ t - length n.schedule = omega arith in z) ∙ k.3 in
+          let first : get_elem? n.queue 0 ≡ some c = ap (get_elem? n.queue) (let z : 0 ≡ t - length n.stays = omega arith in z) ∙ k.3 in
           absurd (alone s kept at c k.1 first slot.1.0 slot.1.1)
         where
           alone : (s : State (Option Transfer) View) (kept : RuleHolds st s) → get_elem? s.views id ≡ some me.0 → (c : ℕ) → me.0.cores ≡ c ∷ [] → get_elem? kept.now.queue 0 ≡ some c → (j : ℕ) → Has s.views j (λ v. IsHolder v.stage) → ⊥
@@ -173,7 +174,7 @@ module _ (st : Settings) where
               holder (Joined _) y k go = y
       take s kept at x found stays ticket_is hit false h slot =
           let n : Witness = kept.now in let mine : SeatKnows st n id me.0 = kept.each id me.0 at in let k = subst (StageHolds n me.0.cores me.0.seen) waits mine.stage in let c : ℕ = k.0 in
-          let first : get_elem? n.queue 0 ≡ some c = ap (get_elem? n.queue) (let z : 0 ≡ t - length n.schedule = omega arith in z) ∙ k.3 in
+          let first : get_elem? n.queue 0 ≡ some c = ap (get_elem? n.queue) (let z : 0 ≡ t - length n.stays = omega arith in z) ∙ k.3 in
           let is : me.0.settings ≡ st = live st n id me.0 mine (λ e. waits_spent t me.0.stage waits e) in
           let transfer : Transfer = slot.0 in let xs : List ℕ = n.schedule in let w : View = holding_view me.0 xs in let n' : Witness = record n { held = true } in
           let has : 0 < count c me.0.cores = only c me.0.cores k.1 in let own = mine.cores c has in let own_in = own.0 in let most = kept.most in let q = kept.queued 0 c first in
@@ -185,6 +186,7 @@ module _ (st : Settings) where
               fits = kept.fits;
               now = n';
               words = stays ∙ kept.words;
+              are_stays = kept.are_stays;
               most = kept.most;
               defined = kept.defined;
               others = kept.others;
@@ -192,7 +194,7 @@ module _ (st : Settings) where
               once = kept.once;
               owned = λ d z. has_still s.views id me.0 w at (n.owner d) (λ v. 0 < count d v.cores) (λ v. 0 < count d v.cores) (λ v y. y) (λ y. y) (kept.owned d z);
               waiting = λ i d e. has_still s.views id me.0 w at (n.owner d) (λ v. InTurn n i v.stage) (λ v. InTurn n' i v.stage) (λ v y. still_turn n n' i v.stage refl y)
-                  (λ y. let a : t ≡ length n.schedule + i = subst (InTurn n i) waits y in omega arith) (kept.waiting i d e);
+                  (λ y. let a : t ≡ length n.stays + i = subst (InTurn n i) waits y in omega arith) (kept.waiting i d e);
               each = each_still s.views id me.0 w at (SeatKnows st n')
                   (record {
                     settings = inr is;
@@ -210,7 +212,7 @@ module _ (st : Settings) where
                     once = o.once;
                     seen = o.seen;
                     told = o.told;
-                    stage = stage_held n n' v.cores v.seen v.stage refl refl refl o.stage;
+                    stage = stage_held n n' v.cores v.seen v.stage refl refl refl refl o.stage;
                   });
               slot = (out, (id, has_me s.views id me.0 w at (λ v. IsHolder v.stage) tt));
             },
@@ -224,7 +226,7 @@ module _ (st : Settings) where
                 begins = mine.seen;
                 defined = subst (λ (z : Settings). IsDefined z xs) (sym is) kept.defined;
                 holds = subst (λ (z : Settings). SlotHolds z xs transfer) (sym is) slot.2;
-                left = subst (λ (z : Settings). length xs < z.config.cores * z.config.budget) (sym is) (left_over st kept.fits xs kept.defined n.enrolled most kept.others c own_in q.1);
+                left = subst (λ (z : Settings). length xs < z.config.cores * z.config.budget) (sym is) (left_over st kept.fits xs kept.defined c (omega arith) q.1);
                 told = λ d z. let same : c ≡ d = count_one d c (subst (λ (l : List ℕ). 0 < count d l) k.1 z) in (
                   subst (λ (y : Settings). d < y.config.cores) (sym is) (omega arith),
                   mine.told d z,

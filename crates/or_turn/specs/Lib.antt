@@ -3,6 +3,7 @@ pub mod Laws
 pub mod Rule
 pub mod Told
 pub mod Shown
+pub mod Stays
 pub mod Units
 pub mod Ordered
 pub mod Ends

@@ -9,7 +9,7 @@ use Rattle.or_turn.specs.declared.view.Stage.{Stage}
 use Rattle.or_turn.specs.declared.view.Stage.TheVariants.{Waits, Holds, Spent}
 use Rattle.or_turn.specs.declared.view.View.{View}
 use Rattle.or_turn.specs.Schedules.{board_of, IsDefined, count, core_at}
-use Rattle.or_turn.specs.Rule.{Begins, SlotHolds, IsHolder, Has}
+use Rattle.or_turn.specs.Rule.{Begins, SlotHolds, AreStays, IsHolder, Has}
 
 -- the seat j has the view v
 abbrev pub At : State (Option Transfer) View → ℕ → View → Type 0
@@ -23,6 +23,7 @@ HasTicket serving t _ = ⊥
 
 pub record Parts (st : Settings) (s : State (Option Transfer) View) : Type 0 where
   pub schedule : List ℕ
+  pub stays : List (ℕ × ℕ)
   -- one view has the opening mark, the enrolled cores are in one view each, and no other core has made a turn
   pub one_mark : (i j a b : ℕ) (v w : View) → At s i v → At s j w → v.opening ≡ Some a → w.opening ≡ Some b → i ≡ j
   pub mark_counts : (j a : ℕ) (v : View) → At s j v → v.opening ≡ Some a → a ≡ slice_index s.words 2
@@ -35,7 +36,7 @@ pub record Parts (st : Settings) (s : State (Option Transfer) View) : Type 0 whe
   -- all views have the settings of the opening
   pub same_settings : (j : ℕ) (v : View) → At s j v → (v.stage ≡ Spent → ⊥) → v.settings ≡ st
   -- the tickets that are out are those from the one that is served up to the next one, each once, each of one core that has not stopped
-  pub served : slice_index s.words 1 ≡ length schedule
+  pub served : slice_index s.words 1 ≡ length stays
   pub ticket_between : (j t : ℕ) (v : View) → At s j v → HasTicket (slice_index s.words 1) t v.stage → (slice_index s.words 1 ≤ t) × (t < slice_index s.words 0)
   pub each_ticket : (t : ℕ) → slice_index s.words 1 ≤ t → t < slice_index s.words 0 → (j : ℕ) × Has s.views j (λ v. HasTicket (slice_index s.words 1) t v.stage)
   pub one_ticket : (i j t : ℕ) (v w : View) → At s i v → At s j w → HasTicket (slice_index s.words 1) t v.stage → HasTicket (slice_index s.words 1) t w.stage → i ≡ j
@@ -44,6 +45,8 @@ pub record Parts (st : Settings) (s : State (Option Transfer) View) : Type 0 whe
   pub home : ((j : ℕ) → Has s.views j (λ v. IsHolder v.stage) → ⊥) → (transfer : Transfer) × (s.homes ≡ some (Some transfer) ∷ []) × SlotHolds st schedule transfer
   pub holder_seen : (j : ℕ) (v : View) → At s j v → IsHolder v.stage → v.seen ≡ schedule
   pub out : (j : ℕ) → Has s.views j (λ v. IsHolder v.stage) → s.homes ≡ none ∷ []
+  -- each stay has turns of one core, at least one, and the schedule is their turns
+  pub are_stays : AreStays stays schedule
   -- the schedule can be replayed
   pub defined : IsDefined st schedule
   -- each view has seen a beginning of it, with all turns of its cores

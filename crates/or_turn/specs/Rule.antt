@@ -1,10 +1,11 @@
 -- The rule of the turn.
-use Rattle.std.specs.Prelude.{◌≡◌, ◌⊎◌, ℕ, ◌+◌, ◌-◌, ◌*◌, ◌/◌, ◌<◌, ◌≤◌, Bool, true, false, List, [], ◌∷◌, ◌++◌, length, Option, Some, None, vec_capacity, leb, if◌then◌else◌}
+use Rattle.std.specs.Prelude.{◌≡◌, ◌⊎◌, ℕ, ◌+◌, ◌-◌, ◌*◌, ◌/◌, ◌<◌, ◌≤◌, Bool, true, false, List, [], ◌∷◌, ◌++◌, length, All, Option, Some, None, vec_capacity, leb, if◌then◌else◌}
 use mathlib.Core.Option.{some, none}
 use lib.ListN.{get_elem?}
 use Rattle.atomic_table.specs.Table.{State}
 use Rattle.or_words.specs.Settings.{Fits}
 use Rattle.or_bus.specs.Represents.{Represents}
+use Rattle.or_sched.specs.Runs.{expand}
 use Rattle.or_replay.specs.Marks.{marks}
 use Rattle.or_turn.specs.declared.view.Transfer.{Transfer}
 use Rattle.or_turn.specs.declared.view.OpenedWith.{OpenedWith}
@@ -46,10 +47,17 @@ pub record SlotHolds (st : Settings) (turns : List ℕ) (transfer : Transfer) : 
   pub schedule_room : most_turns st ≤ vec_capacity transfer.schedule
   pub marks_room : most_turns st / 65536 ≤ vec_capacity transfer.marks
 
+-- A stay is the time from a unit's taking the bus until it gives it back: a core, and how many turns it made. Each stay has
+-- at least one turn, and the schedule is their turns, one stay behind the other.
+pub record AreStays (stays : List (ℕ × ℕ)) (schedule : List ℕ) : Type 0 where
+  pub some_turn : All (λ stay. 1 ≤ stay.1) stays
+  pub turns : expand stays ≡ schedule
+
 -- what there is at one moment
 pub record Witness : Type 0 where
-  -- the turns so far
+  -- the turns so far, and the stays in which they were made
   pub schedule : List ℕ
+  pub stays : List (ℕ × ℕ)
   -- the cores whose tickets wait, in the order of these
   pub queue : List ℕ
   pub enrolled : ℕ
@@ -75,7 +83,7 @@ pub record AreJoined (schedule cores seen : List ℕ) (h : JoinedHalves) : Type 
 -- what a stage says
 abbrev pub StageHolds : Witness → List ℕ → List ℕ → Stage → Type 0
 StageHolds n cores seen Idle = Unit {0}
-StageHolds n cores seen (Waits t) = (c : ℕ) × (cores ≡ c ∷ []) × (length n.schedule ≤ t) × (get_elem? n.queue (t - length n.schedule) ≡ some c)
+StageHolds n cores seen (Waits t) = (c : ℕ) × (cores ≡ c ∷ []) × (length n.stays ≤ t) × (get_elem? n.queue (t - length n.stays) ≡ some c)
 StageHolds n cores seen Holds = (c : ℕ) × (cores ≡ c ∷ []) × (seen ≡ n.schedule) × (get_elem? n.queue 0 ≡ some c) × (n.held ≡ true)
 StageHolds n cores seen (Joined h) = AreJoined n.schedule cores seen h
 StageHolds n cores seen Spent = Unit {0}
@@ -92,7 +100,7 @@ pub record SeatKnows (st : Settings) (n : Witness) (j : ℕ) (v : View) : Type 0
 
 -- the view of the core at place i of the queue
 abbrev pub InTurn : Witness → ℕ → Stage → Type 0
-InTurn n i (Waits t) = t ≡ length n.schedule + i
+InTurn n i (Waits t) = t ≡ length n.stays + i
 InTurn n i Holds = i ≡ 0
 InTurn n i _ = ⊥
 
@@ -112,7 +120,8 @@ SlotIs st n true s = (s.homes ≡ none ∷ []) × ((j : ℕ) × Has s.views j (�
 pub record RuleHolds (st : Settings) (s : State (Option Transfer) View) : Type 0 where
   pub fits : Fits st.config
   pub now : Witness
-  pub words : s.words ≡ (length now.schedule + length now.queue) ∷ length now.schedule ∷ now.enrolled ∷ []
+  pub words : s.words ≡ (length now.stays + length now.queue) ∷ length now.stays ∷ now.enrolled ∷ []
+  pub are_stays : AreStays now.stays now.schedule
   pub most : now.enrolled ≤ st.config.cores
   pub defined : IsDefined st now.schedule
   pub others : (c : ℕ) → now.enrolled ≤ c → count c now.schedule ≡ 0

@@ -1,5 +1,5 @@
 -- What a unit has beside its view.
-use Rattle.std.specs.Prelude.{◌≡◌, ℕ, ◌+◌, Bool, List, [], ◌∷◌, ◌++◌, map, Option, Some, None, slice_index}
+use Rattle.std.specs.Prelude.{◌≡◌, ℕ, ◌+◌, ◌≤◌, Bool, List, [], ◌∷◌, ◌++◌, map, replicate, Option, Some, None, slice_index}
 use Rattle.or_model.specs.Core.{Core}
 use Rattle.or_model.specs.Turn.{turn_begun}
 use Rattle.or_turn.specs.declared.view.Settings.{Settings}
@@ -31,11 +31,14 @@ HasBegun v follows = (v.cores ≡ only_of v ∷ []) × ((core_of v (only_of v)).
 abbrev pub opened_view : Settings → ℕ → View
 opened_view st n = record { settings = st; cores = n ∷ []; seen = []; opening = None; stage = Idle }
 
--- what a turn of the core c does to a view: it sees turns of others, and then its own
-pub record Turned (v w : View) (c : ℕ) : Type 0 where
+-- what a stay of the core c does to a view: it sees turns of others, and then its own, at least one and at most `most`
+pub record Turned (v w : View) (c most : ℕ) : Type 0 where
   pub between : List ℕ
-  pub seen : w.seen ≡ (v.seen ++ between) ++ c ∷ []
-  pub once : count c w.seen ≡ count c v.seen + 1
+  pub turns : ℕ
+  pub some_turn : 1 ≤ turns
+  pub few_turns : turns ≤ most
+  pub seen : w.seen ≡ (v.seen ++ between) ++ replicate turns c
+  pub own : count c w.seen ≡ count c v.seen + turns
   pub same : w ≡ record v { seen = w.seen }
   pub defined : IsDefined v.settings w.seen
 

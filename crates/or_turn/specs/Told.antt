@@ -27,8 +27,8 @@ waiting_view v t = record v { stage = Waits t }
 abbrev pub holding_view : View → List ℕ → View
 holding_view v schedule = record v { seen = schedule; stage = Holds }
 
-abbrev pub done_view : View → View
-done_view v = record v { seen = v.seen ++ v.cores; stage = Idle }
+abbrev pub done_view : View → List ℕ → View
+done_view v schedule = record v { seen = schedule; stage = Idle }
 
 -- what the old seat keeps, and what the new one gets
 abbrev pub closed_view : View → View
@@ -80,8 +80,9 @@ pub record TakesBus (v : View) (m' : SeatState) : Type 0 where
 abbrev pub looked : TableStep → SeatState → ℕ → SeatState → Type 0
 looked step m n m' = (n ≡ ticket m.0.stage → TakesBus m.0 m') × (n ≢ ticket m.0.stage → m' ≡ m)
 
+-- the seat gives its slot back, and has seen the schedule that lies there
 abbrev pub finished : TableStep → SeatState → ℕ → SeatState → Type 0
-finished step m n m' = (m'.1 ≡ []) × (m'.0 ≡ done_view m.0)
+finished step m n m' = (m'.1 ≡ []) × ((transfer : Transfer) → m.1 ≡ (0, Some transfer) ∷ [] → m'.0 ≡ done_view m.0 transfer.schedule.items)
 
 -- what is learned of two views that were joined
 pub record JoinConfirmed (st : Settings) (cores seen : List ℕ) (h : JoinedHalves) : Type 0 where

@@ -13,6 +13,7 @@ use std::alloc::Global;
 mod closing;
 mod joining;
 mod opening;
+mod pace;
 mod sleepers;
 mod steps;
 mod turning;

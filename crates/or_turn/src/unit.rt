@@ -17,6 +17,8 @@ pub struct Unit {
     pub(crate) seat: Place,
     pub(crate) cores: ArrayVec<Core, 8>,
     pub(crate) begun: Option<bool>,
+    /// How many private steps its last begun turn has.
+    pub(crate) private: u32,
     ghost bare: { seat.me.1 ≡ [] },
     ghost idle: { seat.me.0.stage ≡ Idle },
     ghost shown: { cores.items ≡ cores_shown seat.me.0 begun },
@@ -41,6 +43,7 @@ impl Unit {
             seat,
             cores,
             begun: None,
+            private: 0,
         }
     }
 
@@ -59,7 +62,9 @@ impl Unit {
         ensures begun { (c : ℕ) → (view self.old).cores ≡ c ∷ [] → (begun self.new ≡ Some (turn_begun (core_of (view self.old) c)).follows) × (cores self.new ≡ begun_core (view self.old) c ∷ []) }
     {
         let core = &mut self.cores.as_mut_slice()[0];
+        let before = core.steps();
         let follows = core.begin_turn();
+        self.private = core.steps().wrapping_sub(before);
         self.begun = Some(follows);
     }
 }

@@ -53,6 +53,7 @@ impl Shared {
             seat,
             cores,
             begun: _,
+            private: _,
         } = last;
         let Shared { table, sleepers: _ } = self;
         let mut closed = table.close_with(seat);

@@ -1,8 +1,8 @@
 //! Single steps on the table.
-ghost use Rattle.std.specs.Prelude.{◌≡◌, ℕ, ◌+◌, ◌<◌, ◌≤◌, [], ◌∷◌, ◌++◌, None, Some, MatchBool};
+ghost use Rattle.std.specs.Prelude.{◌≡◌, ℕ, ◌+◌, ◌<◌, ◌≤◌, [], ◌∷◌, ◌++◌, replicate, None, Some, MatchBool};
 ghost use Rattle.or_turn.specs.declared.view.Stage.TheVariants.{Idle, Waits, Holds};
 ghost use Rattle.or_turn.specs.declared.view.Transfer.{Transfer as TransferModel};
-ghost use Rattle.or_turn.specs.Schedules.{board_of, core_at};
+ghost use Rattle.or_turn.specs.Schedules.{board_of, IsDefined, core_at};
 ghost use Rattle.or_turn.specs.Rule.{SlotHolds, longer};
 ghost use Rattle.or_turn.specs.Told.{TakesBus, waiting_view, done_view, enrolled_view, closed_view, next_view, both_view, halves, JoinConfirmed};
 
@@ -83,12 +83,12 @@ pub(crate) fn wait_for_bus<R: Wait>(
     unreachable!()
 }
 
-// Ends a turn: the next ticket is served, and the slot goes home.
+// Ends a stay: the next ticket is served, and the slot goes home with the turns that were made.
 pub(crate) fn finish(top: &Top, sleepers: &Sleepers, seat: &mut Place)
     requires table { (seat.old.table_id ≡ top.now.table_id) × (top.now.table_id.words ≡ 3) × (top.now.table_id.slots ≡ 1) }
-    requires holds { (c : ℕ) × (transfer : TransferModel) × (seat.old.me.0.stage ≡ Holds) × (seat.old.me.0.cores ≡ c ∷ []) × (seat.old.me.1 ≡ (0, Some transfer) ∷ []) × SlotHolds seat.old.me.0.settings (seat.old.me.0.seen ++ c ∷ []) transfer }
+    requires holds { (c : ℕ) × (turns : ℕ) × (transfer : TransferModel) × (seat.old.me.0.stage ≡ Holds) × (seat.old.me.0.cores ≡ c ∷ []) × (seat.old.me.1 ≡ (0, Some transfer) ∷ []) × (1 ≤ turns) × IsDefined seat.old.me.0.settings (seat.old.me.0.seen ++ replicate turns c) × SlotHolds seat.old.me.0.settings (seat.old.me.0.seen ++ replicate turns c) transfer }
     ensures same { (seat.new.table_id ≡ seat.old.table_id) × (seat.new.id ≡ seat.old.id) }
-    ensures view { seat.new.me ≡ (done_view seat.old.me.0, []) }
+    ensures view { (transfer : TransferModel) → seat.old.me.1 ≡ (0, Some transfer) ∷ [] → seat.new.me ≡ (done_view seat.old.me.0 transfer.schedule.items, []) }
 {
     let served = top.fetch_add::<Finish>(seat, SERVING, 1);
     sleepers.wake(served.wrapping_add(1));

@@ -1,14 +1,17 @@
-//! A turn at the bus.
-ghost use Rattle.std.specs.Prelude.{◌≡◌, ℕ, Bool, ◌+◌, ◌%◌, ◌<◌, ◌≤◌, [], ◌∷◌, ◌++◌, Some, None, IsTrue, vec_capacity, vec_len};
+//! A stay at the bus.
+ghost use Rattle.std.specs.Prelude.{◌≡◌, ℕ, List, Bool, ◌+◌, ◌%◌, ◌<◌, ◌≤◌, [], ◌∷◌, ◌++◌, Some, None, IsTrue, vec_capacity, vec_len};
 ghost use Rattle.or_model.specs.World.{World};
 ghost use Rattle.or_model.specs.Turn.{turn_ended};
 ghost use Rattle.or_bus.specs.Represents.{Represents};
 ghost use Rattle.or_core.specs.Follows.{IsState, KeepsBus};
 ghost use Rattle.or_replay.specs.Marks.{with_mark};
+ghost use Rattle.or_turn.specs.declared.view.Settings.{Settings};
 ghost use Rattle.or_turn.specs.Shown.{core_of, Turned};
+ghost use Rattle.or_turn.specs.Stays.{HasBusBegun, MadeTurns};
 ghost use Rattle.or_turn.specs.Units.{view, begun, cores, IsOf};
 
 use super::Shared;
+use super::pace::Pace;
 use super::steps::{draw, finish, wait_for_bus};
 use crate::unit::Unit;
 use crate::view::Transfer;
@@ -50,14 +53,36 @@ fn end_turn(core: &mut Core, transfer: &mut Transfer, follows: bool)
     mark_block(transfer);
 }
 
+// Makes the rest of a begun turn, which has so many private steps, and then further turns of the core while the stay goes
+// on, at most `most` in all.
+fn stay(core: &mut Core, transfer: &mut Transfer, follows: bool, private: u32, most: u32)
+    requires begun { (st : Settings) × (turns : List ℕ) × (c : ℕ) × HasBusBegun st turns c core.old follows transfer.old }
+    requires most { 1 ≤ most }
+    ensures { (st : Settings) (turns : List ℕ) (c : ℕ) → HasBusBegun st turns c core.old follows transfer.old → MadeTurns st turns c 1 most core.new transfer.new }
+{
+    let mut pace = Pace::new();
+    let mut private = private;
+    let mut left = most - 1;
+    end_turn(core, transfer, follows);
+    while left > 0 && pace.goes_on(core, &transfer.bus, private) {
+        let before = core.steps();
+        let follows = core.begin_turn();
+        private = core.steps().wrapping_sub(before);
+        end_turn(core, transfer, follows);
+        left -= 1;
+    }
+}
+
 impl Shared {
-    /// Waits for the bus, and makes the rest of the turn that the unit has begun. The unit is of this Shared; it then has
-    /// not begun. It takes no memory.
-    pub fn turn<R: Wait>(&self, rt: &R, unit: &mut Unit)
+    /// Waits for the bus, makes the rest of the turn that the unit has begun, and then at most `most` - 1 further whole
+    /// turns of the unit's core while it has not stopped. The unit is of this Shared; it then has not begun. It takes no
+    /// memory.
+    pub fn turn<R: Wait>(&self, rt: &R, unit: &mut Unit, most: u32)
+        requires most { 1 ≤ most }
         requires of { IsOf self.now unit.old }
         requires begun { (follows : Bool) × (begun unit.old ≡ Some follows) }
         ensures of { IsOf self.now unit.new }
-        ensures turned { (c : ℕ) → (view unit.old).cores ≡ c ∷ [] → Turned (view unit.old) (view unit.new) c }
+        ensures turned { (c : ℕ) → (view unit.old).cores ≡ c ∷ [] → Turned (view unit.old) (view unit.new) c most }
         ensures rests { begun unit.new ≡ None }
         ensures core { (c : ℕ) → (view unit.old).cores ≡ c ∷ [] → cores unit.new ≡ core_of (view unit.new) c ∷ [] }
     {
@@ -68,7 +93,9 @@ impl Shared {
         let ticket = draw(top, &mut unit.seat);
         wait_for_bus(rt, top, &self.sleepers, &mut unit.seat, ticket);
         let mut transfer = top.exchange(&mut unit.seat, 0, None).unwrap();
-        end_turn(&mut unit.cores.as_mut_slice()[0], &mut transfer, follows);
+        let private = unit.private;
+        let core = &mut unit.cores.as_mut_slice()[0];
+        stay(core, &mut transfer, follows, private, most);
         top.exchange(&mut unit.seat, 0, Some(transfer));
         finish(top, &self.sleepers, &mut unit.seat);
         unit.begun = None;

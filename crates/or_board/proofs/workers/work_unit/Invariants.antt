@@ -1,4 +1,4 @@
-use Rattle.std.proofs.Common.{◌≡◌, ◌-◌}
+use Rattle.std.proofs.Common.{◌-◌, ◌≤◌}
 use Rattle.or_turn.specs.Schedules.{count}
 use Rattle.or_turn.specs.Shown.{only_of}
 use Rattle.or_turn.specs.Units.{view, settings_in, id_of}
@@ -8,7 +8,7 @@ use Rattle.or_board.proofs.workers.work_unit.Given as goal
 abbrev pub invariant-loop-unit : goal.invariant-loop-unit
 invariant-loop-unit g l = record {
   works : Works (id_of l.shared) (settings_in l.shared) (only_of (view l.fn.unit)) l.unit;
-  turns : l.turn ≡ count (only_of (view l.fn.unit)) (view l.unit).seen;
+  stays : l.stays ≤ count (only_of (view l.fn.unit)) (view l.unit).seen;
 }
 
 abbrev pub decreases-loop-unit : goal.decreases-loop-unit

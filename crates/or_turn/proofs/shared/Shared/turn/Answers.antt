@@ -1,13 +1,15 @@
-use Rattle.std.proofs.Common.{rules, ◌≡◌, ℕ, Bool, List, [], ◌∷◌, ◌++◌, map, get_or, set, length, Option, Some, None, sym, ap, ◌∙◌, subst, ◌<◌, ◌+◌, ◌%◌, vec_len, vec_capacity}
+use Rattle.std.proofs.Common.{rules, ◌≡◌, ℕ, Bool, List, [], ◌∷◌, ◌++◌, map, replicate, get_or, set, length, Option, Some, None, sym, ap, ◌∙◌, subst}
 use Rattle.std.specs.List.{refill}
 use Rattle.atomic_table.specs.Table.{rest}
 use Rattle.or_model.specs.Core.{Core}
 use Rattle.or_turn.specs.declared.view.Transfer.{Transfer}
 use Rattle.or_turn.specs.declared.view.View.{View}
+use Rattle.or_turn.specs.Schedules.{IsDefined}
 use Rattle.or_turn.specs.Rule.{SlotHolds}
 use Rattle.or_turn.specs.Told.{TakesBus, SeatState, waiting_view, holding_view, done_view}
 use Rattle.or_turn.specs.Shown.{core_of, only_of, begun_core, cores_shown, HasBegun, Turned}
-use Rattle.or_turn.proofs.shared.Shared.turn.Goals.{In-Some, After-wait_for_bus, After-index-as_mut_slice-0, After-exchange-2, After-finish}
+use Rattle.or_turn.specs.Stays.{HasBusBegun, MadeTurns}
+use Rattle.or_turn.proofs.shared.Shared.turn.Goals.{In-Some, After-wait_for_bus, After-index-as_mut_slice-0, After-stay, After-exchange-2, After-finish}
 use Rattle.or_turn.proofs.Turn as turn
 use Rattle.or_turn.proofs.shared.Shared.turn.Goals as goal
 
@@ -42,57 +44,59 @@ core_is g c = let h = items_is g (goal.at.After-index-as_mut_slice-0 g c).In-Som
 transfer_is : (g : _) (c : After-index-as_mut_slice-0 g) (tk : TakesBus (waiting_view c.args.unit.now.seat.me.0 c.draw-ticket.result) c.wait_for_bus.new.seat.me) → c.unwrap-transfer.result ≡ tk.transfer
 transfer_is g c tk = some_is c.unwrap-transfer.result tk.transfer c.exchange.result c.unwrap-transfer.ensures (slot_is c.wait_for_bus.new.seat.me.1 c.exchange.result (Some tk.transfer) _ _ c.exchange.ensures.2 tk.slots)
 
-pub end_turn-requires-clause-running : goal.end_turn-requires-clause-running
-end_turn-requires-clause-running g c = λ e. let at = goal.at.end_turn-requires-clause-running g c in let v : View = c.args.unit.now.seat.me.0 in
-    ap (λ (k : Core). k.stop) (core_is g at.After-index-as_mut_slice-0) ∙ turn.runs v _ _ (has g at.In-Some) _ (took g at.After-wait_for_bus) e
+-- the unit's core has the bus, in the middle of its turn
+begun : (g : _) (c : After-index-as_mut_slice-0 g) → let v : View = c.args.unit.now.seat.me.0 in
+    HasBusBegun v.settings (took g (goal.at.After-index-as_mut_slice-0 g c).After-wait_for_bus).schedule (only_of v) (get_or c.as_mut_slice.result.now 0 c.index-as_mut_slice-0.result) c.in-Some.follows c.unwrap-transfer.result
+begun g c = let at = goal.at.After-index-as_mut_slice-0 g c in let v : View = c.args.unit.now.seat.me.0 in let h = has g at.In-Some in let tk = took g at.After-wait_for_bus in
+    let u = transfer_is g c tk in let k = core_is g c in
+    subst (λ (p : Core × Transfer). HasBusBegun v.settings tk.schedule (only_of v) p.0 c.in-Some.follows p.1) (λ i. (sym k i, sym u i)) (turn.taken v _ _ h _ tk)
 
-pub end_turn-requires-clause-known : goal.end_turn-requires-clause-known
-end_turn-requires-clause-known g c = let at = goal.at.end_turn-requires-clause-known g c in let v : View = c.args.unit.now.seat.me.0 in let h = has g at.In-Some in let tk = took g at.After-wait_for_bus in
-    let u = transfer_is g at.After-index-as_mut_slice-0 tk in let k = core_is g at.After-index-as_mut_slice-0 in (
-      subst (λ (p : Core × Transfer). p.0.number < p.1.bus.value.cores) (λ i. (sym k i, sym u i)) (turn.known v _ _ h _ tk),
-      subst (λ (x : Core). x.number < 256) (sym k) (turn.small v _ _ h _ tk),
-    )
+pub stay-requires-clause-begun : goal.stay-requires-clause-begun
+stay-requires-clause-begun g c = let at = goal.at.stay-requires-clause-begun g c in let v : View = c.args.unit.now.seat.me.0 in let h = has g at.In-Some in let tk = took g at.After-wait_for_bus in
+    (v.settings, tk.schedule, only_of v, begun g at.After-index-as_mut_slice-0)
 
-pub end_turn-requires-clause-room : goal.end_turn-requires-clause-room
-end_turn-requires-clause-room g c = let at = goal.at.end_turn-requires-clause-room g c in let v : View = c.args.unit.now.seat.me.0 in let h = has g at.In-Some in let tk = took g at.After-wait_for_bus in
-    let u = transfer_is g at.After-index-as_mut_slice-0 tk in (
-      subst (λ (x : Transfer). 0 < x.bus.value.spare) (sym u) (turn.console_room v _ _ h _ tk),
-      subst (λ (x : Transfer). vec_len x.schedule < vec_capacity x.schedule) (sym u) (turn.schedule_room v _ _ h _ tk),
-      subst (λ (x : Transfer). (vec_len x.schedule + 1) % 65536 ≡ 0 → vec_len x.marks < vec_capacity x.marks) (sym u) (turn.marks_room v _ _ h _ tk),
-    )
+-- the turns of this stay
+stayed : (g : _) (c : After-stay g) → let v : View = c.args.unit.now.seat.me.0 in MadeTurns v.settings (took g (goal.at.After-stay g c).After-wait_for_bus).schedule (only_of v) 1 c.args.most c.stay.new.core c.stay.new.transfer
+stayed g c = let at = goal.at.After-stay g c in let v : View = c.args.unit.now.seat.me.0 in let tk = took g at.After-wait_for_bus in
+    c.stay.ensures v.settings tk.schedule (only_of v) (begun g at.After-index-as_mut_slice-0)
 
 -- the slot that is given back
-carried : (g : _) (c : After-exchange-2 g) (tk : TakesBus (waiting_view c.args.unit.now.seat.me.0 c.draw-ticket.result) c.wait_for_bus.new.seat.me) → c.exchange-2.new.seat.me ≡ (holding_view (waiting_view c.args.unit.now.seat.me.0 c.draw-ticket.result) tk.schedule, (0, Some c.end_turn.new.transfer) ∷ [])
+carried : (g : _) (c : After-exchange-2 g) (tk : TakesBus (waiting_view c.args.unit.now.seat.me.0 c.draw-ticket.result) c.wait_for_bus.new.seat.me) → c.exchange-2.new.seat.me ≡ (holding_view (waiting_view c.args.unit.now.seat.me.0 c.draw-ticket.result) tk.schedule, (0, Some c.stay.new.transfer) ∷ [])
 carried g c tk = let a = c.exchange.ensures.3 in let b = c.exchange-2.ensures.3 in
-    b ∙ ap (λ (m : SeatState). let r : SeatState = (m.0, (0, Some c.end_turn.new.transfer) ∷ rest m.1) in r) (a ∙ ap (λ (m : SeatState). let r : SeatState = (m.0, (0, None) ∷ rest m.1) in r) (λ i. (tk.view i, tk.slots i)))
+    b ∙ ap (λ (m : SeatState). let r : SeatState = (m.0, (0, Some c.stay.new.transfer) ∷ rest m.1) in r) (a ∙ ap (λ (m : SeatState). let r : SeatState = (m.0, (0, None) ∷ rest m.1) in r) (λ i. (tk.view i, tk.slots i)))
 
 pub finish-requires-clause-holds : goal.finish-requires-clause-holds
 finish-requires-clause-holds g c = let at = goal.at.finish-requires-clause-holds g c in let v : View = c.args.unit.now.seat.me.0 in let h = has g at.In-Some in let tk = took g at.After-wait_for_bus in
-    let u = transfer_is g at.After-index-as_mut_slice-0 tk in let k = core_is g at.After-index-as_mut_slice-0 in let e = carried g at.After-exchange-2 tk in let t = c.end_turn.ensures in (
+    let e = carried g at.After-exchange-2 tk in let m = stayed g at.After-stay in let same : c.exchange-2.new.seat.me.0 ≡ holding_view (waiting_view v c.draw-ticket.result) tk.schedule = ap (λ (x : SeatState). x.0) e in (
       only_of v,
-      c.end_turn.new.transfer,
-      ap (λ (m : SeatState). m.0.stage) e,
-      ap (λ (m : SeatState). m.0.cores) e ∙ h.0,
-      ap (λ (m : SeatState). m.1) e,
-      subst (λ (x : View). SlotHolds (x.settings) (x.seen ++ only_of v ∷ []) c.end_turn.new.transfer) (sym (ap (λ (m : SeatState). m.0) e)) (turn.holds_from v _ _ h _ tk _ _ _ _ u k (t.state, t.bus, t.schedule, t.marks, t.kept.0, t.kept.1)),
+      m.made,
+      c.stay.new.transfer,
+      ap (λ (x : View). x.stage) same,
+      ap (λ (x : View). x.cores) same ∙ h.0,
+      ap (λ (x : SeatState). x.1) e,
+      m.some,
+      subst (λ (x : View). IsDefined (x.settings) (x.seen ++ replicate m.made (only_of v))) (sym same) m.has.defined,
+      subst (λ (x : View). SlotHolds (x.settings) (x.seen ++ replicate m.made (only_of v)) c.stay.new.transfer) (sym same) m.has.holds,
     )
 
-after_is : (g : _) (c : After-finish g) (tk : TakesBus (waiting_view c.args.unit.now.seat.me.0 c.draw-ticket.result) c.wait_for_bus.new.seat.me) → c.finish.new.seat.me ≡ (done_view (holding_view (waiting_view c.args.unit.now.seat.me.0 c.draw-ticket.result) tk.schedule), [])
-after_is g c tk = c.finish.ensures.view ∙ ap (λ (m : SeatState). let r : SeatState = (done_view m.0, []) in r) (carried g (goal.at.After-finish g c).After-exchange-2 tk)
+after_is : (g : _) (c : After-finish g) (tk : TakesBus (waiting_view c.args.unit.now.seat.me.0 c.draw-ticket.result) c.wait_for_bus.new.seat.me)
+    → c.finish.new.seat.me ≡ (done_view (holding_view (waiting_view c.args.unit.now.seat.me.0 c.draw-ticket.result) tk.schedule) c.stay.new.transfer.schedule.items, [])
+after_is g c tk = let e = carried g (goal.at.After-finish g c).After-exchange-2 tk in
+    c.finish.ensures.view c.stay.new.transfer (ap (λ (m : SeatState). m.1) e) ∙ ap (λ (m : SeatState). let r : SeatState = (done_view m.0 c.stay.new.transfer.schedule.items, []) in r) e
 
 pub invariant_of-unit : goal.invariant_of-unit
 invariant_of-unit g c = let at = goal.at.invariant_of-unit g c in let v : View = c.args.unit.now.seat.me.0 in let h = has g at.In-Some in let tk = took g at.After-wait_for_bus in
-    let u = transfer_is g at.After-index-as_mut_slice-0 tk in let k = core_is g at.After-index-as_mut_slice-0 in let e = after_is g c tk in let w : View = turn.after v _ _ h _ tk in
-    let t = c.end_turn.ensures in let core = turn.core_from v _ _ h _ tk _ c.end_turn.new.transfer _ c.end_turn.new.core u k (t.state, t.bus, t.schedule, t.marks, t.kept.0, t.kept.1) in record {
-      bare = ap (λ (m : SeatState). m.1) e;
-      idle = ap (λ (m : SeatState). m.0.stage) e;
-      shown = ap (λ (xs : List Core). refill (length xs) xs (set c.as_mut_slice.result.now 0 c.end_turn.new.core)) (items_is g at.In-Some)
-          ∙ (ap (λ (xs : List Core). refill 1 (begun_core v (only_of v) ∷ []) (set xs 0 c.end_turn.new.core)) (c.as_mut_slice.ensures.value ∙ items_is g at.In-Some)
-          ∙ (ap (λ (x : Core). x ∷ []) core ∙ (ap (λ (l : List ℕ). map (core_of w) l) (sym h.0) ∙ ap (λ (m : SeatState). map (core_of m.0) m.0.cores) (sym e))));
+    let e = after_is g at.After-finish tk in let m = stayed g at.After-stay in let w : View = turn.after v _ _ h _ tk _ _ _ m in
+    let core = turn.core_after_stay v _ _ h _ tk _ _ _ m in record {
+      bare = ap (λ (x : SeatState). x.1) e;
+      idle = ap (λ (x : SeatState). x.0.stage) e;
+      shown = ap (λ (xs : List Core). refill (length xs) xs (set c.as_mut_slice.result.now 0 c.stay.new.core)) (items_is g at.In-Some)
+          ∙ (ap (λ (xs : List Core). refill 1 (begun_core v (only_of v) ∷ []) (set xs 0 c.stay.new.core)) (c.as_mut_slice.ensures.value ∙ items_is g at.In-Some)
+          ∙ (ap (λ (x : Core). x ∷ []) core ∙ (ap (λ (l : List ℕ). map (core_of w) l) (sym h.0) ∙ ap (λ (x : SeatState). map (core_of x.0) x.0.cores) (sym e))));
       ready = λ f x. absurd (none_is f x);
     }
 
 pub returns-clause-turned : goal.returns-clause-turned
 returns-clause-turned g c = λ d one. let at = goal.at.returns-clause-turned g c in let v : View = c.args.unit.now.seat.me.0 in let h = has g at.In-Some in let tk = took g at.After-wait_for_bus in
-    let e = after_is g at.After-finish tk in let same : only_of v ≡ d = ap (λ (l : List ℕ). get_or l 0 0) one in
-    subst (λ (p : View × ℕ). Turned v p.0 p.1) (λ i. (sym (ap (λ (m : SeatState). m.0) e) i, same i)) (turn.turned v _ _ h _ tk c.args.unit.now.idle)
+    let e = after_is g at.After-finish tk in let m = stayed g at.After-stay in let same : only_of v ≡ d = ap (λ (l : List ℕ). get_or l 0 0) one in
+    subst (λ (p : View × ℕ). Turned v p.0 p.1 c.args.most) (λ i. (sym (ap (λ (x : SeatState). x.0) e) i, same i)) (turn.turned v _ _ h _ tk _ _ _ m c.args.unit.now.idle)
