@@ -11,7 +11,7 @@ const VERSION: &str = "or1k 0.1.0\n";
 const HELP: &str = "\
 or1k: an emulator of a symmetric multicore OpenRISC board
 
-or1k run IMAGE INPUT SCHED REPORT [--cores N] [--budget N] [--ram N] [--pic latched]
+or1k run IMAGE INPUT SCHED REPORT [--cores N] [--budget N] [--ram N] [--pic latched] [--stay N]
     Runs the ELF32 file IMAGE, with the bytes of the file INPUT as the console's input (- for none), until every core
     has stopped. Writes the recording of the order of turns to SCHED, the report of the final cores to REPORT, and
     what the console has shown to standard output.
@@ -19,6 +19,7 @@ or1k run IMAGE INPUT SCHED REPORT [--cores N] [--budget N] [--ram N] [--pic latc
     --budget N   steps that each core may make, 1 to 67108864; 1000000 where left out
     --ram N      RAM in MiB, 1 to 256; 32 where left out
     --pic latched    interrupt controllers that latch their lines
+    --stay N     turns that a core makes before it releases the bus, 1 to 4096; 256 where left out
 
 or1k replay IMAGE INPUT SCHED REPORT
     Follows the recording SCHED of a run of IMAGE with INPUT, and writes the report and the console as the run did.
@@ -48,9 +49,10 @@ or1k gen SEED CORES ROUNDS SRC
     Writes the source of a workload to SRC: CORES cores, 1 to 8, count a counter up in ROUNDS rounds each, 1 to 100000,
     with delays that SEED gives, 0 to 4294967295. Run its image with --cores CORES --budget 10000000 --ram 1.
 
-or1k bench SEED CORES ROUNDS SCHED
+or1k bench SEED CORES ROUNDS SCHED [--stay N]
     Makes that workload, assembles it and runs it with that board. Writes the recording to SCHED, and to standard output
     the line bench SEED CORES ROUNDS, then run and what the console has shown.
+    --stay N     as of run
 
 or1k --help       prints this text
 or1k --version    prints the version

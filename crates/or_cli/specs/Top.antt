@@ -20,8 +20,8 @@ use Rattle.or_command_run.specs.Bench.{bench_loads, bench_check, BenchWrites}
 
 -- the commands that work cores on threads, and so wait
 abbrev pub is_threaded : Shown → Bool
-is_threaded (run names config) = true
-is_threaded (bench workload schedule) = true
+is_threaded (run names options) = true
+is_threaded (bench workload schedule stay) = true
 is_threaded _ = false
 
 abbrev pub of_threads : Option Shown → Option Shown
@@ -46,26 +46,26 @@ pub record IsUsage (old new : HostState) : Type 0 where
 
 -- what stands after a command with this status
 abbrev pub CommandEnds : Shown → ℕ → HostState → HostState → Type 0
-CommandEnds (run names config) status old new = Answers (run_loads names) (run_check names config) (RunWrites names config) LeavesAll status old new
+CommandEnds (run names options) status old new = Answers (run_loads names) (run_check names options.config) (RunWrites names options.config) LeavesAll status old new
 CommandEnds (replay files report) status old new = AnswersBy (replay_loads files) (RecordedVerdict files) (ReplayWrites files report) LeavesAll status old new
 CommandEnds (asm source image) status old new = Answers (asm_loads source) (asm_check source) (AsmWrites image) LeavesAll status old new
 CommandEnds (dis image) status old new = Answers (dis_loads image) (dis_check image) DisWrites (DisLacks image) status old new
 CommandEnds (debug files script) status old new = AnswersBy (debug_loads files script) (DebugVerdict files script) (DebugWrites files) LeavesAll status old new
 CommandEnds (gen workload source) status old new = Answers gen_loads gen_check (GenWrites workload source) LeavesAll status old new
-CommandEnds (bench workload schedule) status old new = Answers bench_loads (bench_check workload) (BenchWrites workload schedule) LeavesAll status old new
+CommandEnds (bench workload schedule stay) status old new = Answers bench_loads (bench_check workload) (BenchWrites workload schedule) LeavesAll status old new
 CommandEnds (back files script every) status old new = AnswersBy (back_loads files script) (BackVerdict files script) (BackWrites files) LeavesAll status old new
 CommandEnds (race files) status old new = AnswersBy (race_loads files) (RaceVerdict files) (RaceWrites files) LeavesAll status old new
 CommandEnds (prof files) status old new = AnswersBy (prof_loads files) (ProfVerdict files) (ProfWrites files) LeavesAll status old new
 
 -- where no fault came, the files decide the status, or memory ran out
 abbrev pub IsComplete : Shown → ℕ → HostState → HostState → Type 0
-IsComplete (run names config) status old new = IsDecided (run_loads names) (run_check names config) (RunWrites names config) LeavesAll status old new
+IsComplete (run names options) status old new = IsDecided (run_loads names) (run_check names options.config) (RunWrites names options.config) LeavesAll status old new
 IsComplete (replay files report) status old new = IsDecidedBy (replay_loads files) (RecordedVerdict files) (ReplayWrites files report) LeavesAll status old new
 IsComplete (asm source image) status old new = IsDecided (asm_loads source) (asm_check source) (AsmWrites image) LeavesAll status old new
 IsComplete (dis image) status old new = IsDecided (dis_loads image) (dis_check image) DisWrites (DisLacks image) status old new
 IsComplete (debug files script) status old new = IsDecidedBy (debug_loads files script) (DebugVerdict files script) (DebugWrites files) LeavesAll status old new
 IsComplete (gen workload source) status old new = IsDecided gen_loads gen_check (GenWrites workload source) LeavesAll status old new
-IsComplete (bench workload schedule) status old new = IsDecided bench_loads (bench_check workload) (BenchWrites workload schedule) LeavesAll status old new
+IsComplete (bench workload schedule stay) status old new = IsDecided bench_loads (bench_check workload) (BenchWrites workload schedule) LeavesAll status old new
 IsComplete (back files script every) status old new = IsDecidedBy (back_loads files script) (BackVerdict files script) (BackWrites files) LeavesAll status old new
 IsComplete (race files) status old new = IsDecidedBy (race_loads files) (RaceVerdict files) (RaceWrites files) LeavesAll status old new
 IsComplete (prof files) status old new = IsDecidedBy (prof_loads files) (ProfVerdict files) (ProfWrites files) LeavesAll status old new

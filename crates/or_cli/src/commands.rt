@@ -15,7 +15,7 @@ ghost use Rattle.or_command_debug.specs.Debug.{debug_loads, DebugVerdict, DebugW
 ghost use Rattle.or_command_prof.specs.Prof.{prof_loads, ProfVerdict, ProfWrites};
 ghost use Rattle.or_command_race.specs.Race.{race_loads, RaceVerdict, RaceWrites};
 ghost use Rattle.or_command_back.specs.Back.{back_loads, BackVerdict, BackWrites};
-ghost use Rattle.or_command_line.specs.Settings.{FitsEvery};
+ghost use Rattle.or_command_line.specs.Settings.{FitsStay, FitsEvery};
 ghost use Rattle.or_cli.specs.Top.{threaded_command, lone_command, IsUsage, CommandEnds, IsComplete};
 
 use or_board::Gate;
@@ -42,10 +42,11 @@ fn run_command<R: Threads + Wait + Sync, H: Host, G: Gate + Sync>(
     gate: &G,
 ) -> u8
     requires names { AreWritten (run_names words.now) }
-    requires fits { Fits words.now.config }
-    ensures ends { Answers (run_loads (run_names words.now)) (run_check (run_names words.now) words.now.config) (RunWrites (run_names words.now) words.now.config) LeavesAll
+    requires fits { Fits words.now.options.config }
+    requires stay { FitsStay words.now.options.stay }
+    ensures ends { Answers (run_loads (run_names words.now)) (run_check (run_names words.now) words.now.options.config) (RunWrites (run_names words.now) words.now.options.config) LeavesAll
         result (H.state host.old) (H.state host.new) }
-    ensures complete { IsDecided (run_loads (run_names words.now)) (run_check (run_names words.now) words.now.config) (RunWrites (run_names words.now) words.now.config) LeavesAll
+    ensures complete { IsDecided (run_loads (run_names words.now)) (run_check (run_names words.now) words.now.options.config) (RunWrites (run_names words.now) words.now.options.config) LeavesAll
         result (H.state host.old) (H.state host.new) }
     ensures command { result ≢ 2 }
 {
@@ -59,18 +60,20 @@ fn bench_command<R: Threads + Wait + Sync, H: Host, G: Gate + Sync>(
     alloc: Global,
     workload: &Workload,
     schedule: &str,
+    stay: u32,
     host: &mut H,
     gate: &G,
 ) -> u8
     requires numbers { FitsWorkload workload.now }
     requires name { IsFileName schedule.now }
+    requires stay { FitsStay stay }
     ensures ends { Answers bench_loads (bench_check workload.now) (BenchWrites workload.now schedule.now) LeavesAll
         result (H.state host.old) (H.state host.new) }
     ensures complete { IsDecided bench_loads (bench_check workload.now) (BenchWrites workload.now schedule.now) LeavesAll
         result (H.state host.old) (H.state host.new) }
     ensures command { result ≢ 2 }
 {
-    let outcome = bench(rt, alloc, workload, schedule, host, gate);
+    let outcome = bench(rt, alloc, workload, schedule, stay, host, gate);
     conclude(host, outcome)
 }
 
@@ -174,9 +177,13 @@ pub fn top_run<R: Threads + Wait + Sync, H: Host, G: Gate + Sync>(
 {
     match parse(words) {
         Some(Command::Run(words)) => run_command(rt, alloc, &words, host, gate),
-        Some(Command::Bench { workload, schedule }) => {
-            bench_command(rt, alloc, &workload, schedule, host, gate)
-        }
+        Some(
+            Command::Bench {
+                workload,
+                schedule,
+                stay,
+            },
+        ) => bench_command(rt, alloc, &workload, schedule, stay, host, gate),
         _ => refuse_words(host),
     }
 }

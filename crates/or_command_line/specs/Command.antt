@@ -1,36 +1,36 @@
 -- The commands and their words.
 use Rattle.std.specs.Prelude.{ℕ, List, [], ◌∷◌, ◌&&◌, if◌then◌else◌, Option, Some, None, codes}
 use Rattle.std.specs.Str.{bytes_eq}
-use Rattle.or_words.specs.declared.Config.{Config}
 use Rattle.or_words.specs.Settings.{Fits}
+use Rattle.or_command_line.specs.declared.RunOptions.{RunOptions}
 use Rattle.or_command_line.specs.declared.Workload.{Workload}
 use Rattle.or_command_line.specs.declared.Command.{Command}
 use Rattle.or_command_line.specs.declared.Command.TheVariants.{Run as IsRun, Replay as IsReplay, Asm as IsAsm, Dis as IsDis, Debug as IsDebug, Gen as IsGen, Bench as IsBench, Back as IsBack, Race as IsRace, Prof as IsProf}
 use Rattle.or_command_line.specs.Words.{is_name, differ, IsFileName}
 use Rattle.or_command_line.specs.Names.{Names, Recorded, recorded_names, run_names, are_recorded, is_report, are_run_names, AreRecorded, IsReport, AreWritten, IsAssembly}
-use Rattle.or_command_line.specs.Settings.{config_of, every_of, FitsEvery}
+use Rattle.or_command_line.specs.Settings.{run_options_of, stay_alone_of, every_of, FitsStay, FitsEvery}
 use Rattle.or_command_line.specs.Workloads.{workload_of, FitsWorkload}
 
 -- a command as contracts see it
 pub data Shown : Type 0 where
-  run : Names → Config → Shown
+  run : Names → RunOptions → Shown
   replay : Recorded → List ℕ → Shown
   asm : List ℕ → List ℕ → Shown
   dis : List ℕ → Shown
   debug : Recorded → List ℕ → Shown
   gen : Workload → List ℕ → Shown
-  bench : Workload → List ℕ → Shown
+  bench : Workload → List ℕ → ℕ → Shown
   back : Recorded → List ℕ → ℕ → Shown
   race : Recorded → Shown
   prof : Recorded → Shown
 
-abbrev pub run_with : Names → Option Config → Option Shown
+abbrev pub run_with : Names → Option RunOptions → Option Shown
 run_with names None = None
-run_with names (Some config) = Some (run names config)
+run_with names (Some options) = Some (run names options)
 
--- `IMAGE INPUT SCHED REPORT [--cores N] [--budget N] [--ram N] [--pic latched]`
+-- `IMAGE INPUT SCHED REPORT [--cores N] [--budget N] [--ram N] [--pic latched] [--stay N]`
 abbrev pub run_where : Names → List (List ℕ) → Option Shown
-run_where names options = if are_run_names names then run_with names (config_of options) else None
+run_where names options = if are_run_names names then run_with names (run_options_of options) else None
 
 unfoldable pub run_of : List (List ℕ) → Option Shown
 run_of (image ∷ input ∷ schedule ∷ report ∷ options) = run_where (record { image = image; input = input; schedule = schedule; report = report }) options
@@ -90,33 +90,34 @@ abbrev pub as_prof : Option Recorded → Option Shown
 as_prof None = None
 as_prof (Some files) = Some (prof files)
 
--- `SEED CORES ROUNDS` and a name
-pub record Made : Type 0 where
-  pub workload : Workload
-  pub name : List ℕ
+-- `SEED CORES ROUNDS SRC`
+abbrev pub gen_with : List ℕ → Option Workload → Option Shown
+gen_with source None = None
+gen_with source (Some workload) = if is_name source then Some (gen workload source) else None
 
-abbrev pub made_with : List ℕ → Option Workload → Option Made
-made_with name None = None
-made_with name (Some workload) = if is_name name then Some (record { workload = workload; name = name }) else None
+unfoldable pub gen_of : List (List ℕ) → Option Shown
+gen_of (seed ∷ cores ∷ rounds ∷ source ∷ []) = gen_with source (workload_of seed cores rounds)
+gen_of _ = None
 
-unfoldable pub made_of : List (List ℕ) → Option Made
-made_of (seed ∷ cores ∷ rounds ∷ name ∷ []) = made_with name (workload_of seed cores rounds)
-made_of _ = None
+-- `SEED CORES ROUNDS SCHED [--stay N]`
+abbrev pub bench_where : List ℕ → Workload → Option ℕ → Option Shown
+bench_where schedule workload None = None
+bench_where schedule workload (Some stay) = if is_name schedule then Some (bench workload schedule stay) else None
 
-abbrev pub as_gen : Option Made → Option Shown
-as_gen None = None
-as_gen (Some made) = Some (gen made.workload made.name)
+abbrev pub bench_with : List ℕ → Option Workload → List (List ℕ) → Option Shown
+bench_with schedule None options = None
+bench_with schedule (Some workload) options = bench_where schedule workload (stay_alone_of options)
 
-abbrev pub as_bench : Option Made → Option Shown
-as_bench None = None
-as_bench (Some made) = Some (bench made.workload made.name)
+unfoldable pub bench_of : List (List ℕ) → Option Shown
+bench_of (seed ∷ cores ∷ rounds ∷ schedule ∷ options) = bench_with schedule (workload_of seed cores rounds) options
+bench_of _ = None
 
 -- the commands that run, write or read programs
 abbrev pub program_command : List ℕ → List (List ℕ) → Option Shown
 program_command verb words =
     if bytes_eq verb (codes "run") then run_of words else
-    if bytes_eq verb (codes "bench") then as_bench (made_of words) else
-    if bytes_eq verb (codes "gen") then as_gen (made_of words) else
+    if bytes_eq verb (codes "bench") then bench_of words else
+    if bytes_eq verb (codes "gen") then gen_of words else
     if bytes_eq verb (codes "asm") then asm_of words else
     if bytes_eq verb (codes "dis") then dis_of words else
     None
@@ -134,26 +135,26 @@ command_of (verb ∷ words) =
 
 -- what the code's commands show
 abbrev pub shown_command : Command → Shown
-shown_command (IsRun words) = run (run_names words) words.config
+shown_command (IsRun words) = run (run_names words) words.options
 shown_command (IsReplay files report) = replay (recorded_names files) report.now
 shown_command (IsAsm source image) = asm source.now image.now
 shown_command (IsDis image) = dis image.now
 shown_command (IsDebug files script) = debug (recorded_names files) script.now
 shown_command (IsGen workload source) = gen workload source.now
-shown_command (IsBench workload schedule) = bench workload schedule.now
+shown_command (IsBench workload schedule stay) = bench workload schedule.now stay
 shown_command (IsBack files script every) = back (recorded_names files) script.now every
 shown_command (IsRace files) = race (recorded_names files)
 shown_command (IsProf files) = prof (recorded_names files)
 
 -- the names of a command are names of files, the written ones differ from each other one, and its numbers are in their ranges
 abbrev pub AreNamesOf : Shown → Type 0
-AreNamesOf (run names config) = AreWritten names × Fits config
+AreNamesOf (run names options) = AreWritten names × Fits options.config × FitsStay options.stay
 AreNamesOf (replay files report) = AreRecorded files × IsReport files report
 AreNamesOf (asm source image) = IsAssembly source image
 AreNamesOf (dis image) = IsFileName image
 AreNamesOf (debug files script) = AreRecorded files × IsFileName script
 AreNamesOf (gen workload source) = FitsWorkload workload × IsFileName source
-AreNamesOf (bench workload schedule) = FitsWorkload workload × IsFileName schedule
+AreNamesOf (bench workload schedule stay) = FitsWorkload workload × IsFileName schedule × FitsStay stay
 AreNamesOf (back files script every) = AreRecorded files × IsFileName script × FitsEvery every
 AreNamesOf (race files) = AreRecorded files
 AreNamesOf (prof files) = AreRecorded files

@@ -1,7 +1,8 @@
--- The options of a run: `[--cores N] [--budget N] [--ram N] [--pic latched]`, in this order.
+-- The options of a run: `[--cores N] [--budget N] [--ram N] [--pic latched] [--stay N]`, in this order, and those of other commands.
 use Rattle.std.specs.Prelude.{ℕ, List, [], ◌∷◌, Bool, true, false, ◌&&◌, ◌≤◌, ◌^◌, nat_le, if◌then◌else◌, Option, Some, None, codes}
 use Rattle.std.specs.Str.{bytes_eq}
 use Rattle.or_words.specs.declared.Config.{Config}
+use Rattle.or_command_line.specs.declared.RunOptions.{RunOptions}
 use Rattle.or_text.specs.Numerals.{decimal_of}
 
 abbrev pub with_rest : {A : Type 0} → List (List ℕ) → Option A → Option (A × List (List ℕ))
@@ -32,29 +33,66 @@ config_fits config =
     (nat_le 1 config.cores && nat_le config.cores 8)
     && ((nat_le 1 config.budget && nat_le config.budget 67108864) && (nat_le 1 config.ram && nat_le config.ram 256))
 
-abbrev pub config_where : Config → Option Config
-config_where config = if config_fits config then Some config else None
+abbrev pub config_where : Config → List (List ℕ) → Option (Config × List (List ℕ))
+config_where config rest = if config_fits config then Some (config, rest) else None
 
-abbrev pub config_with_latch : ℕ → ℕ → ℕ → Option (Bool × List (List ℕ)) → Option Config
+abbrev pub config_with_latch : ℕ → ℕ → ℕ → Option (Bool × List (List ℕ)) → Option (Config × List (List ℕ))
 config_with_latch cores budget ram None = None
-config_with_latch cores budget ram (Some (latched, [])) = config_where (record { cores = cores; budget = budget; ram = ram; latched = latched })
-config_with_latch cores budget ram (Some (latched, word ∷ rest)) = None
+config_with_latch cores budget ram (Some (latched, rest)) = config_where (record { cores = cores; budget = budget; ram = ram; latched = latched }) rest
 
-abbrev pub config_with_ram : ℕ → ℕ → Option (ℕ × List (List ℕ)) → Option Config
+abbrev pub config_with_ram : ℕ → ℕ → Option (ℕ × List (List ℕ)) → Option (Config × List (List ℕ))
 config_with_ram cores budget None = None
 config_with_ram cores budget (Some (ram, rest)) = config_with_latch cores budget ram (latch_of rest)
 
-abbrev pub config_with_budget : ℕ → Option (ℕ × List (List ℕ)) → Option Config
+abbrev pub config_with_budget : ℕ → Option (ℕ × List (List ℕ)) → Option (Config × List (List ℕ))
 config_with_budget cores None = None
 config_with_budget cores (Some (budget, rest)) = config_with_ram cores budget (option_of (codes "--ram") 32 rest)
 
-abbrev pub config_with_cores : Option (ℕ × List (List ℕ)) → Option Config
+abbrev pub config_with_cores : Option (ℕ × List (List ℕ)) → Option (Config × List (List ℕ))
 config_with_cores None = None
 config_with_cores (Some (cores, rest)) = config_with_budget cores (option_of (codes "--budget") 1000000 rest)
 
--- the settings that the options give; none where a word is no option here, or a setting is out of its range
-unfoldable pub config_of : List (List ℕ) → Option Config
+-- the settings that the options give, and the words behind them; none where a setting is out of its range
+unfoldable pub config_of : List (List ℕ) → Option (Config × List (List ℕ))
 config_of words = config_with_cores (option_of (codes "--cores") 1 words)
+
+-- the most turns of a stay at the bus: 1 to 4096
+abbrev pub stay_fits : ℕ → Bool
+stay_fits stay = nat_le 1 stay && nat_le stay 4096
+
+abbrev pub stay_where : Option (ℕ × List (List ℕ)) → Option (ℕ × List (List ℕ))
+stay_where None = None
+stay_where (Some (stay, rest)) = if stay_fits stay then Some (stay, rest) else None
+
+-- the option `[--stay N]`, and the words behind it; none where the number is out of its range
+unfoldable pub stay_of : List (List ℕ) → Option (ℕ × List (List ℕ))
+stay_of words = stay_where (option_of (codes "--stay") 256 words)
+
+pub record FitsStay (stay : ℕ) : Type 0 where
+  pub some : 1 ≤ stay
+  pub limit : stay ≤ 4096
+
+abbrev pub options_with_stay : Config → Option (ℕ × List (List ℕ)) → Option RunOptions
+options_with_stay config None = None
+options_with_stay config (Some (stay, [])) = Some (record { config = config; stay = stay })
+options_with_stay config (Some (stay, word ∷ rest)) = None
+
+abbrev pub options_with_config : Option (Config × List (List ℕ)) → Option RunOptions
+options_with_config None = None
+options_with_config (Some (config, rest)) = options_with_stay config (stay_of rest)
+
+-- the options of a run; none where a word is no option here, or a number is out of its range
+unfoldable pub run_options_of : List (List ℕ) → Option RunOptions
+run_options_of words = options_with_config (config_of words)
+
+abbrev pub stay_without_rest : Option (ℕ × List (List ℕ)) → Option ℕ
+stay_without_rest None = None
+stay_without_rest (Some (stay, [])) = Some stay
+stay_without_rest (Some (stay, word ∷ rest)) = None
+
+-- the option `[--stay N]` alone; none where a word is no option here, or the number is out of its range
+unfoldable pub stay_alone_of : List (List ℕ) → Option ℕ
+stay_alone_of words = stay_without_rest (stay_of words)
 
 -- turns between two checkpoints: 1 to 2 ^ 29
 abbrev pub every_fits : ℕ → Bool

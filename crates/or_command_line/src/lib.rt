@@ -12,7 +12,16 @@ mod runs;
 
 use or_words::Config;
 
-/// `IMAGE INPUT SCHED` and, of a run, `REPORT` and its settings.
+/// The options of a run.
+#[derive(Clone, Copy)]
+pub struct RunOptions {
+    /// The settings of the board.
+    pub config: Config,
+    /// The most turns that a core makes while its worker holds the bus: 1 to 4096.
+    pub stay: u32,
+}
+
+/// `IMAGE INPUT SCHED` and, of a run, `REPORT` and its options.
 #[derive(Clone, Copy)]
 pub struct Run<'a> {
     pub image: &'a str,
@@ -20,7 +29,7 @@ pub struct Run<'a> {
     pub input: &'a str,
     pub schedule: &'a str,
     pub report: &'a str,
-    pub config: Config,
+    pub options: RunOptions,
 }
 
 /// `IMAGE INPUT SCHED`: the files of a recorded run.
@@ -63,9 +72,11 @@ pub enum Command<'a> {
         workload: Workload,
         source: &'a str,
     },
+    /// With the most turns of a stay at the bus, 1 to 4096.
     Bench {
         workload: Workload,
         schedule: &'a str,
+        stay: u32,
     },
     /// With the number of turns between two checkpoints, 1 to 2^29.
     Back {

@@ -2,10 +2,14 @@
 ghost use Rattle.std.specs.Prelude.{◌≡◌, None, Some, MatchOption, IfSome, IsTrue};
 ghost use Rattle.or_words.specs.Settings.{Fits};
 ghost use Rattle.or_command_line.specs.Words.{texts};
-ghost use Rattle.or_command_line.specs.Settings.{option_of, latch_of, config_of, config_fits, every_of, every_fits, FitsEvery};
+ghost use Rattle.or_command_line.specs.Settings.{option_of, latch_of, config_of, config_fits, stay_of, stay_fits, FitsStay, run_options_of, stay_alone_of, every_of, every_fits, FitsEvery};
 
+use crate::RunOptions;
 use or_text::numerals::read_decimal;
 use or_words::Config;
+
+/// The most turns of a stay at the bus where no option gives them.
+const DEFAULT_STAY: u32 = 256;
 
 // An option with a number, which may be left out; the words behind it.
 fn option<'a>(name: &str, default: u32, words: &'a [String]) -> Option<(u32, &'a [String])>
@@ -57,11 +61,11 @@ fn fits(config: &Config) -> bool
             && (1 <= config.ram && config.ram <= 256))
 }
 
-// The settings that the options give.
+// The settings that the options give; the words behind them.
 #[tactic(auto, unfolding(crate::specs::Settings::config_of))]
-pub(crate) fn settings(words: &[String]) -> Option<Config>
-    ensures value { result ≡ config_of (texts words.now) }
-    ensures fits { IfSome result Fits }
+fn settings(words: &[String]) -> Option<(Config, &[String])>
+    ensures value { MatchOption result (config_of (texts words.now) ≡ None) (λ found. config_of (texts words.now) ≡ Some (found.0, texts found.1.now)) }
+    ensures fits { IfSome result (λ found. Fits found.0) }
 {
     let Some((cores, rest)) = option("--cores", 1, words) else {
         return None;
@@ -81,11 +85,67 @@ pub(crate) fn settings(words: &[String]) -> Option<Config>
         ram,
         latched,
     };
-    if rest.is_empty() && fits(&config) {
-        Some(config)
+    if fits(&config) {
+        Some((config, rest))
     } else {
         None
     }
+}
+
+// Turns of a stay: 1 to 4096.
+fn is_stay(stay: u32) -> bool
+    ensures test { result ≡ stay_fits stay }
+    ensures fits { IsTrue result → FitsStay stay }
+{
+    1 <= stay && stay <= 4096
+}
+
+// The most turns of a stay that the option gives; the words behind it.
+#[tactic(auto, unfolding(crate::specs::Settings::stay_of))]
+fn stay(words: &[String]) -> Option<(u32, &[String])>
+    ensures value { MatchOption result (stay_of (texts words.now) ≡ None) (λ found. stay_of (texts words.now) ≡ Some (found.0, texts found.1.now)) }
+    ensures fits { IfSome result (λ found. FitsStay found.0) }
+{
+    let Some((stay, rest)) = option("--stay", DEFAULT_STAY, words) else {
+        return None;
+    };
+    if is_stay(stay) {
+        Some((stay, rest))
+    } else {
+        None
+    }
+}
+
+/// The options of a run.
+#[tactic(auto, unfolding(crate::specs::Settings::run_options_of))]
+pub(crate) fn run_options(words: &[String]) -> Option<RunOptions>
+    ensures value { result ≡ run_options_of (texts words.now) }
+    ensures fits { IfSome result (λ options. Fits options.config) }
+    ensures stay { IfSome result (λ options. FitsStay options.stay) }
+{
+    let Some((config, rest)) = settings(words) else {
+        return None;
+    };
+    let Some((stay, rest)) = stay(rest) else {
+        return None;
+    };
+    if rest.is_empty() {
+        Some(RunOptions { config, stay })
+    } else {
+        None
+    }
+}
+
+/// The most turns of a stay, where no other option may stand.
+#[tactic(auto, unfolding(crate::specs::Settings::stay_alone_of))]
+pub(crate) fn stay_alone(words: &[String]) -> Option<u32>
+    ensures value { result ≡ stay_alone_of (texts words.now) }
+    ensures fits { IfSome result FitsStay }
+{
+    let Some((stay, rest)) = stay(words) else {
+        return None;
+    };
+    if rest.is_empty() { Some(stay) } else { None }
 }
 
 // Turns between two checkpoints: 1 to 2^29.

@@ -2,9 +2,10 @@
 ghost use Rattle.std.specs.Prelude.{◌≡◌, None, Some, MatchOption, IfSome, IsTrue};
 ghost use Rattle.or_command_line.specs.Words.{texts, IsFileName};
 ghost use Rattle.or_command_line.specs.Workloads.{workload_of, workload_fits, FitsWorkload};
-ghost use Rattle.or_command_line.specs.Command.{asm_of, dis_of, Made, made_of, as_gen, as_bench, shown_command, AreNamesOf};
+ghost use Rattle.or_command_line.specs.Command.{asm_of, dis_of, gen_of, bench_of, shown_command, AreNamesOf};
 
 use crate::names::is_name;
+use crate::options::stay_alone;
 use crate::{Command, Workload};
 use or_text::numerals::read_decimal;
 
@@ -79,45 +80,49 @@ fn workload(seed: &str, cores: &str, rounds: &str) -> Option<Workload>
     }
 }
 
-// `SEED CORES ROUNDS` and a name.
-#[tactic(auto, unfolding(crate::specs::Command::made_of))]
-fn made(words: &[String]) -> Option<(Workload, &str)>
-    ensures made { MatchOption result (made_of (texts words.now) ≡ None)
-        (λ made. let shown : Made = record { workload = made.0; name = made.1.now } in made_of (texts words.now) ≡ Some shown) }
-    ensures names { IfSome result (λ made. FitsWorkload made.0 × IsFileName made.1.now) }
+/// `SEED CORES ROUNDS SRC`.
+#[tactic(auto, unfolding(crate::specs::Command::gen_of))]
+pub(crate) fn parse_gen(words: &[String]) -> Option<Command<'_>>
+    ensures command { MatchOption result (gen_of (texts words.now) ≡ None) (λ command. gen_of (texts words.now) ≡ Some (shown_command command)) }
+    ensures names { IfSome result (λ command. AreNamesOf (shown_command command)) }
 {
-    let [seed, cores, rounds, name] = words else {
+    let [seed, cores, rounds, source] = words else {
         return None;
     };
     let Some(workload) = workload(seed.as_str(), cores.as_str(), rounds.as_str()) else {
         return None;
     };
-    let name = name.as_str();
-    if is_name(name) {
-        Some((workload, name))
+    let source = source.as_str();
+    if is_name(source) {
+        Some(Command::Gen { workload, source })
     } else {
         None
     }
 }
 
-/// `SEED CORES ROUNDS SRC`.
-pub(crate) fn parse_gen(words: &[String]) -> Option<Command<'_>>
-    ensures command { MatchOption result (as_gen (made_of (texts words.now)) ≡ None) (λ command. as_gen (made_of (texts words.now)) ≡ Some (shown_command command)) }
-    ensures names { IfSome result (λ command. AreNamesOf (shown_command command)) }
-{
-    match made(words) {
-        Some((workload, source)) => Some(Command::Gen { workload, source }),
-        None => None,
-    }
-}
-
-/// `SEED CORES ROUNDS SCHED`.
+/// `SEED CORES ROUNDS SCHED` and an option.
+#[tactic(auto, unfolding(crate::specs::Command::bench_of))]
 pub(crate) fn parse_bench(words: &[String]) -> Option<Command<'_>>
-    ensures command { MatchOption result (as_bench (made_of (texts words.now)) ≡ None) (λ command. as_bench (made_of (texts words.now)) ≡ Some (shown_command command)) }
+    ensures command { MatchOption result (bench_of (texts words.now) ≡ None) (λ command. bench_of (texts words.now) ≡ Some (shown_command command)) }
     ensures names { IfSome result (λ command. AreNamesOf (shown_command command)) }
 {
-    match made(words) {
-        Some((workload, schedule)) => Some(Command::Bench { workload, schedule }),
-        None => None,
+    let [seed, cores, rounds, schedule, options @ ..] = words else {
+        return None;
+    };
+    let Some(workload) = workload(seed.as_str(), cores.as_str(), rounds.as_str()) else {
+        return None;
+    };
+    let Some(stay) = stay_alone(options) else {
+        return None;
+    };
+    let schedule = schedule.as_str();
+    if is_name(schedule) {
+        Some(Command::Bench {
+            workload,
+            schedule,
+            stay,
+        })
+    } else {
+        None
     }
 }

@@ -6,7 +6,7 @@ ghost use Rattle.or_command_line.specs.Names.{run_names, recorded_names, are_run
 ghost use Rattle.or_command_line.specs.Command.{run_of, replay_of, debug_of, back_of, recorded_of, as_race, as_prof, shown_command, AreNamesOf};
 
 use crate::names::{are_recorded, is_name, is_report};
-use crate::options::{every, settings};
+use crate::options::{every, run_options};
 use crate::{Command, Recorded, Run};
 
 /// `IMAGE INPUT SCHED REPORT` and options.
@@ -30,13 +30,13 @@ pub(crate) fn parse_run(words: &[String]) -> Option<Command<'_>>
     if files.schedule == files.image || files.schedule == files.input {
         return None;
     }
-    match settings(options) {
-        Some(config) => Some(Command::Run(Run {
+    match run_options(options) {
+        Some(options) => Some(Command::Run(Run {
             image: files.image,
             input: files.input,
             schedule: files.schedule,
             report,
-            config,
+            options,
         })),
         None => None,
     }

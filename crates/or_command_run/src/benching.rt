@@ -7,6 +7,7 @@ ghost use Rattle.or_board.specs.Works.{IsThreadedRun};
 ghost use Rattle.or_words.specs.Settings.{Fits, ram_bytes};
 ghost use Rattle.or_elf.specs.Fault.{elf_fault};
 ghost use Rattle.or_command_line.specs.Words.{IsFileName};
+ghost use Rattle.or_command_line.specs.Settings.{FitsStay};
 ghost use Rattle.or_command_line.specs.Workloads.{FitsWorkload};
 ghost use Rattle.or_command.specs.Leaves.{Silent};
 ghost use Rattle.or_command.specs.Ends.{end_of};
@@ -106,17 +107,19 @@ fn make<R: Threads + Wait + Sync, G: Gate + Sync>(
     rt: &R,
     alloc: Global,
     workload: &Workload,
+    stay: u32,
     image: &[u8],
     gate: &G,
 ) -> Result<BenchTexts, OpenFault>
     requires numbers { FitsWorkload workload.now }
+    requires stay { FitsStay stay }
     requires limit { length image.now ≤ 67108864 }
     ensures run { MatchResult result
         (λ texts. (elf_fault image.now (ram_bytes (bench_config workload.now)) ≡ None) × IsBenchFrom (start (bench_config workload.now) image.now []) (head_of (bench_config workload.now) image.now []) workload.now texts.recording.items texts.told.items)
         (λ fault. RunFails image.now (ram_bytes (bench_config workload.now)) fault) }
 {
     let config = config(workload);
-    match or_board::run(rt, alloc, &config, image, Vec::new(alloc), gate) {
+    match or_board::run(rt, alloc, &config, image, Vec::new(alloc), stay, gate) {
         Ok(closed) => match texts(alloc, &head(&config, image, b""), workload, &closed) {
             Ok(texts) => Ok(texts),
             Err(_) => Err(OpenFault::NoMemory),
@@ -144,18 +147,20 @@ fn finish<'a, R: Threads + Wait + Sync, H: Host, G: Gate + Sync>(
     alloc: Global,
     workload: &Workload,
     schedule: &'a str,
+    stay: u32,
     image: &[u8],
     host: &mut H,
     gate: &G,
 ) -> Outcome<'a>
     requires numbers { FitsWorkload workload.now }
     requires name { IsFileName schedule.now }
+    requires stay { FitsStay stay }
     requires image { IsFileOf (bench_source workload.now) image.now }
     requires limit { length image.now ≤ 67108864 }
     ensures outcome { FinishEnds (bench_check workload.now) (BenchWrites workload.now schedule.now) [] (end_of result) (H.state host.old) (H.state host.new) }
     ensures silent { Silent (H.state host.old) (H.state host.new) }
 {
-    match make(rt, alloc, workload, image, gate) {
+    match make(rt, alloc, workload, stay, image, gate) {
         Ok(texts) => write(schedule, &texts, host),
         Err(fault) => refused(NAME, fault),
     }
@@ -174,24 +179,36 @@ fn image(alloc: Global, workload: &Workload) -> Result<Vec<u8>, AsmFault>
     }
 }
 
-/// Makes a workload, assembles it, works each of its cores on a thread of its own until it has stopped, and writes the
-/// recording, and to standard output the numbers and what the console has shown. It loads no file.
+/// Makes a workload, assembles it, works each of its cores on a thread of its own until it has stopped, with at most `stay`
+/// turns in one stay at the bus, and writes the recording, and to standard output the numbers and what the console has shown.
+/// It loads no file.
 pub fn bench<'a, R: Threads + Wait + Sync, H: Host, G: Gate + Sync>(
     rt: &R,
     alloc: Global,
     workload: &Workload,
     schedule: &'a str,
+    stay: u32,
     host: &mut H,
     gate: &G,
 ) -> Outcome<'a>
     requires numbers { FitsWorkload workload.now }
     requires name { IsFileName schedule.now }
+    requires stay { FitsStay stay }
     ensures outcome { CommandOutcome bench_loads (bench_check workload.now) (BenchWrites workload.now schedule.now) LeavesAll
         (end_of result) (H.state host.old) (H.state host.new) }
     ensures silent { Silent (H.state host.old) (H.state host.new) }
 {
     match image(alloc, workload) {
-        Ok(image) => finish(rt, alloc, workload, schedule, image.as_slice(), host, gate),
+        Ok(image) => finish(
+            rt,
+            alloc,
+            workload,
+            schedule,
+            stay,
+            image.as_slice(),
+            host,
+            gate,
+        ),
         Err(fault) => refuse_source(NAME, fault),
     }
 }

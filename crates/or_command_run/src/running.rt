@@ -7,6 +7,7 @@ ghost use Rattle.or_board.specs.Works.{IsThreadedRun};
 ghost use Rattle.or_words.specs.Settings.{Fits, ram_bytes};
 ghost use Rattle.or_elf.specs.Fault.{elf_fault};
 ghost use Rattle.or_command_line.specs.Names.{run_names, AreWritten};
+ghost use Rattle.or_command_line.specs.Settings.{FitsStay};
 ghost use Rattle.or_command.specs.Leaves.{Silent};
 ghost use Rattle.or_command.specs.Ends.{end_of};
 ghost use Rattle.or_command.specs.Outcomes.{CommandOutcome, LeavesAll};
@@ -21,12 +22,12 @@ use crate::opened::{head, refused};
 use or_board::Gate;
 use or_command::{LoadStop, Outcome, Output, write_outputs};
 use or_command_image::{image_in, input_in, load_image};
-use or_command_line::Run;
+use or_command_line::{Run, RunOptions};
 use or_host::Host;
 use or_replay::{OpenFault, report};
 use or_sched::Head;
 use or_turn::Closed;
-use or_words::{Config, NoMemory};
+use or_words::NoMemory;
 use std::alloc::Global;
 use std::sync::Wait;
 use std::thread::Threads;
@@ -77,21 +78,23 @@ fn texts(alloc: Global, head: &Head, closed: Closed) -> Result<RunTexts, NoMemor
 fn make<R: Threads + Wait + Sync, G: Gate + Sync>(
     rt: &R,
     alloc: Global,
-    config: &Config,
+    options: &RunOptions,
     image: &[u8],
     input: &[u8],
     gate: &G,
 ) -> Result<RunTexts, OpenFault>
-    requires fits { Fits config.now }
+    requires fits { Fits options.now.config }
+    requires stay { FitsStay options.now.stay }
     requires limit { length image.now ≤ 67108864 }
     ensures run { MatchResult result
-        (λ texts. (elf_fault image.now (ram_bytes config.now) ≡ None) × IsRun config.now image.now input.now texts.recording.items texts.report.items texts.console.items)
-        (λ fault. RunFails image.now (ram_bytes config.now) fault) }
+        (λ texts. (elf_fault image.now (ram_bytes options.now.config) ≡ None) × IsRun options.now.config image.now input.now texts.recording.items texts.report.items texts.console.items)
+        (λ fault. RunFails image.now (ram_bytes options.now.config) fault) }
 {
     let Ok(bytes) = Vec::from_slice(alloc, input) else {
         return Err(OpenFault::NoMemory);
     };
-    match or_board::run(rt, alloc, config, image, bytes, gate) {
+    let config = &options.config;
+    match or_board::run(rt, alloc, config, image, bytes, options.stay, gate) {
         Ok(closed) => match texts(alloc, &head(config, image, input), closed) {
             Ok(texts) => Ok(texts),
             Err(_) => Err(OpenFault::NoMemory),
@@ -110,15 +113,16 @@ fn finish<'a, R: Threads + Wait + Sync, H: Host, G: Gate + Sync>(
     gate: &G,
 ) -> Outcome<'a>
     requires names { AreWritten (run_names words.now) }
-    requires fits { Fits words.now.config }
+    requires fits { Fits words.now.options.config }
+    requires stay { FitsStay words.now.options.stay }
     requires limit { length (image_of (bytes_of files.now)) ≤ 67108864 }
-    ensures outcome { FinishEnds (run_check (run_names words.now) words.now.config) (RunWrites (run_names words.now) words.now.config) (bytes_of files.now) (end_of result) (H.state host.old) (H.state host.new) }
+    ensures outcome { FinishEnds (run_check (run_names words.now) words.now.options.config) (RunWrites (run_names words.now) words.now.options.config) (bytes_of files.now) (end_of result) (H.state host.old) (H.state host.new) }
     ensures silent { Silent (H.state host.old) (H.state host.new) }
 {
     match make(
         rt,
         alloc,
-        &words.config,
+        &words.options,
         image_in(files),
         input_in(files),
         gate,
@@ -146,8 +150,8 @@ fn write<'a, H: Host>(words: &Run<'a>, texts: &RunTexts, host: &mut H) -> Outcom
     write_outputs(host, &[recording, report], texts.console.as_slice())
 }
 
-/// Runs an image: loads it and the input, works each core on a thread of its own until it has stopped, and writes the recording, the report and
-/// the console.
+/// Runs an image: loads it and the input, works each core on a thread of its own until it has stopped, with at most as many
+/// turns in one stay at the bus as the options say, and writes the recording, the report and the console.
 pub fn run<'a, R: Threads + Wait + Sync, H: Host, G: Gate + Sync>(
     rt: &R,
     alloc: Global,
@@ -156,8 +160,9 @@ pub fn run<'a, R: Threads + Wait + Sync, H: Host, G: Gate + Sync>(
     gate: &G,
 ) -> Outcome<'a>
     requires names { AreWritten (run_names words.now) }
-    requires fits { Fits words.now.config }
-    ensures outcome { CommandOutcome (run_loads (run_names words.now)) (run_check (run_names words.now) words.now.config) (RunWrites (run_names words.now) words.now.config) LeavesAll
+    requires fits { Fits words.now.options.config }
+    requires stay { FitsStay words.now.options.stay }
+    ensures outcome { CommandOutcome (run_loads (run_names words.now)) (run_check (run_names words.now) words.now.options.config) (RunWrites (run_names words.now) words.now.options.config) LeavesAll
         (end_of result) (H.state host.old) (H.state host.new) }
     ensures silent { Silent (H.state host.old) (H.state host.new) }
 {

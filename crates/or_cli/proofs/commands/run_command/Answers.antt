@@ -10,7 +10,7 @@ use Rattle.or_cli.proofs.commands.run_command.Goals as goal
 pub returns-clause-ends : goal.returns-clause-ends
 returns-clause-ends g c =
     let names = run_names c.args.words.now in
-    let config = c.args.words.now.config in
+    let config = c.args.words.now.options.config in
     let a = g.H.Host.state c.args.host.now in
     let b = g.H.Host.state c.run-outcome.new.host in
     let d = g.H.Host.state c.conclude.new.host in
@@ -21,13 +21,13 @@ returns-clause-ends g c =
 pub returns-clause-complete : goal.returns-clause-complete
 returns-clause-complete g c =
     let names = run_names c.args.words.now in
-    let config = c.args.words.now.config in
+    let config = c.args.words.now.options.config in
     decided (run_loads names) (run_check names config) (RunWrites names config) LeavesAll c.conclude.result
     (g.H.Host.state c.args.host.now) (g.H.Host.state c.conclude.new.host) (returns-clause-ends g c)
 
 pub returns-clause-command : goal.returns-clause-command
 returns-clause-command g c =
     let names = run_names c.args.words.now in
-    let config = c.args.words.now.config in
+    let config = c.args.words.now.options.config in
     not_two (run_loads names) (run_check names config) (RunWrites names config) LeavesAll c.conclude.result
     (g.H.Host.state c.args.host.now) (g.H.Host.state c.conclude.new.host) (run_not_two names config) (returns-clause-ends g c)

@@ -12,7 +12,7 @@ use Rattle.or_command_run.proofs.running.finish.Goals as goal
 pub returns-in-Err-clause-outcome : goal.returns-in-Err-clause-outcome
 returns-in-Err-clause-outcome g c =
     let names = run_names c.args.words.now in
-    let config = c.args.words.now.config in
+    let config = c.args.words.now.options.config in
     let files = bytes_of c.args.files.now in
     stops_end (run_check names config) (RunWrites names config) files (end_of c.refused.result) (g.H.Host.state c.args.host.now)
     (c.refused.ensures (image_in files) (ram_bytes config)

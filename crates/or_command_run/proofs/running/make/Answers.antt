@@ -7,7 +7,7 @@ use Rattle.or_command_run.proofs.running.make.Goals as goal
 
 pub returns-in-Ok-texts : goal.returns-in-Ok-texts
 returns-in-Ok-texts g c =
-    let config = c.args.config.now in
+    let config = c.args.options.now.config in
     let image = c.args.image.now in
     let texts = c.in-Ok-texts.texts in
     let run : IsThreadedRun (start config image c.args.input.now) c.in-Ok-run.closed =

@@ -13,7 +13,7 @@ use Rattle.or_command_run.proofs.running.run.Goals as goal
 pub returns-in-Ok-clause-outcome : goal.returns-in-Ok-clause-outcome
 returns-in-Ok-clause-outcome g c =
     let names = run_names c.args.words.now in
-    let config = c.args.words.now.config in
+    let config = c.args.words.now.options.config in
     goes_on (run_loads names) (run_check names config) (RunWrites names config) (apart_of names config c.requires.names)
     (bytes_of c.new-files.result.items) (bytes_of c.load_image.new.into.items) (end_of c.finish.result)
     (g.H.Host.state c.args.host.now) (g.H.Host.state c.load_image.new.host) (g.H.Host.state c.finish.new.host)
