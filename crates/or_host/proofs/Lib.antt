@@ -1,3 +1,4 @@
 pub mod GivenLemmas
 pub mod FailingLemmas
 pub mod CountsLaws
+pub mod WholeLemmas

@@ -4,8 +4,10 @@ pub mod Blamed
 pub mod HostState
 pub mod Counts
 pub mod Calls
+pub mod Named
 pub mod Store
 pub mod Failing
 pub mod Given
 pub mod Memory
 pub mod Sure
+pub mod FileHost

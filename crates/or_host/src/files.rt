@@ -1,18 +1,24 @@
-// The host of real files, of which nothing is told.
-ghost use Rattle.std.specs.Prelude.{◌≡◌, [], None};
-ghost use Rattle.or_host.specs.Calls.{Takes};
+// The host of named files and of two writers.
+ghost use Rattle.std.specs.Prelude.{◌≡◌, ◌≢◌, [], List, ℕ, None};
+ghost use Rattle.or_host.specs.Counts.{LoadCounts, WriteCounts, SayCounts};
+ghost use Rattle.or_host.specs.Calls.{IsName, dash, Takes, Empties, Extends, Emits};
+ghost use Rattle.or_host.specs.Named.{Sends};
+ghost use Rattle.or_host.specs.declared.host.Deed.{Deed};
+ghost use Rattle.or_host.specs.Blamed.{blamed};
+ghost use Rattle.or_host.specs.Told.{TellsSame};
 
 use crate::blame::note;
-use crate::{Blame, Deed, Failed, Host, LoadFail};
-use std::fs;
-use std::fs::OpenOptions;
-use std::io::{Read, Stderr, Stdout, Write};
-use std::rt::Files;
+use crate::whole::{append_whole, load_named, write_whole};
+use crate::{Blame, Deed, Failed, Host, LoadFail, NamedFiles};
+use std::io::{Stderr, Stdout, Write};
 
-/// Real files, standard output for what is written out, and standard error for what is said. Nothing is told of what they hold.
+/// Named files, a writer for what is written out, and one for what is said.
+///
+/// It tells of files what they tell. What the writers are known to hold grows by what is written out and what is said. Of real
+/// files, standard output and standard error nothing is told.
 #[derive(Drop)]
-pub struct FileHost<R: Files + Drop, O: Write + Drop, E: Write + Drop> {
-    files: R,
+pub struct FileHost<F: NamedFiles + Drop, O: Write + Drop, E: Write + Drop> {
+    files: F,
     out: O,
     err: E,
     faults: u64,
@@ -31,9 +37,9 @@ impl<'a> FileHost<&'a HostRuntime, Stdout, Stderr> {
     }
 }
 
-impl<R: Files + Drop, O: Write + Drop, E: Write + Drop> FileHost<R, O, E> {
+impl<F: NamedFiles + Drop, O: Write + Drop, E: Write + Drop> FileHost<F, O, E> {
     /// A host over these files, with these writers for what is written out and what is said.
-    pub fn over(files: R, out: O, err: E) -> Self
+    pub fn over(files: F, out: O, err: E) -> Self
         ensures faults { result.faults ≡ 0 }
         ensures say_faults { result.say_faults ≡ 0 }
         ensures blame { result.blame ≡ None }
@@ -49,39 +55,38 @@ impl<R: Files + Drop, O: Write + Drop, E: Write + Drop> FileHost<R, O, E> {
     }
 }
 
-impl<R: Files + Drop, O: Write + Drop, E: Write + Drop> Host for FileHost<R, O, E> {
-    ghost state = { λ host. record {
-      holds = λ _. None;
-      written = None;
-      said = None;
-      faults = host.faults;
-      say_faults = host.say_faults;
-      blame = host.blame;
-    } };
+impl<F: NamedFiles + Drop, O: Write + Drop, E: Write + Drop> Host for FileHost<F, O, E> {
+    ghost use Rattle.or_host.specs.FileHost.{files_state, KeepsWriters};
 
-    fn load(&mut self, name: &str, max: usize, into: &mut Vec<u8>) -> Result<(), LoadFail> {
-        let answer = match fs::open(&self.files, name) {
-            Ok(mut file) => read_whole(&mut file, max, into),
-            Err(_) => Err(LoadFail::Failed),
-        };
+    ghost state = { files_state F.holds };
+
+    fn load(&mut self, name: &str, max: usize, into: &mut Vec<u8>) -> Result<(), LoadFail>
+        requires name { IsName name.now }
+        requires empty { into.old.items ≡ [] }
+        ensures taken { Takes result ((files_state F.holds self.old).holds name.now) max into.new.items }
+        ensures names { (other : List ℕ) → TellsSame ((files_state F.holds self.old).holds other) ((files_state F.holds self.new).holds other) }
+        ensures written { TellsSame ((files_state F.holds self.old).written) ((files_state F.holds self.new).written) }
+        ensures said { TellsSame ((files_state F.holds self.old).said) ((files_state F.holds self.new).said) }
+        ensures counts { LoadCounts result (blamed Deed.Load name.now) (files_state F.holds self.old) (files_state F.holds self.new) }
+        ensures writers { KeepsWriters self.old self.new }
+    {
+        let answer = load_named(&mut self.files, name, max, into);
         if matches!(answer, Err(LoadFail::Failed)) {
             note(&mut self.faults, &mut self.blame, Deed::Load, name);
         }
         answer
     }
 
-    fn create(&mut self, name: &str) -> Result<(), Failed> {
-        match fs::create(&self.files, name) {
-            Ok(_) => Ok(()),
-            Err(_) => {
-                note(&mut self.faults, &mut self.blame, Deed::Write, name);
-                Err(Failed)
-            }
-        }
-    }
-
-    fn append(&mut self, name: &str, bytes: &[u8]) -> Result<(), Failed> {
-        match append_whole(&self.files, name, bytes) {
+    fn create(&mut self, name: &str) -> Result<(), Failed>
+        requires { IsName name.now }
+        ensures own { Empties result ((files_state F.holds self.old).holds name.now) ((files_state F.holds self.new).holds name.now) }
+        ensures others { (other : List ℕ) → other ≢ name.now → TellsSame ((files_state F.holds self.old).holds other) ((files_state F.holds self.new).holds other) }
+        ensures written { TellsSame ((files_state F.holds self.old).written) ((files_state F.holds self.new).written) }
+        ensures said { TellsSame ((files_state F.holds self.old).said) ((files_state F.holds self.new).said) }
+        ensures counts { WriteCounts result (blamed Deed.Write name.now) (files_state F.holds self.old) (files_state F.holds self.new) }
+        ensures writers { KeepsWriters self.old self.new }
+    {
+        match self.files.create(name) {
             Ok(()) => Ok(()),
             Err(_) => {
                 note(&mut self.faults, &mut self.blame, Deed::Write, name);
@@ -90,7 +95,32 @@ impl<R: Files + Drop, O: Write + Drop, E: Write + Drop> Host for FileHost<R, O, 
         }
     }
 
-    fn out(&mut self, bytes: &[u8]) -> Result<(), Failed> {
+    fn append(&mut self, name: &str, bytes: &[u8]) -> Result<(), Failed>
+        requires { IsName name.now }
+        ensures own { Extends result bytes.now ((files_state F.holds self.old).holds name.now) ((files_state F.holds self.new).holds name.now) }
+        ensures others { (other : List ℕ) → other ≢ name.now → TellsSame ((files_state F.holds self.old).holds other) ((files_state F.holds self.new).holds other) }
+        ensures written { TellsSame ((files_state F.holds self.old).written) ((files_state F.holds self.new).written) }
+        ensures said { TellsSame ((files_state F.holds self.old).said) ((files_state F.holds self.new).said) }
+        ensures counts { WriteCounts result (blamed Deed.Write name.now) (files_state F.holds self.old) (files_state F.holds self.new) }
+        ensures writers { KeepsWriters self.old self.new }
+    {
+        match append_whole(&mut self.files, name, bytes) {
+            Ok(()) => Ok(()),
+            Err(_) => {
+                note(&mut self.faults, &mut self.blame, Deed::Write, name);
+                Err(Failed)
+            }
+        }
+    }
+
+    fn out(&mut self, bytes: &[u8]) -> Result<(), Failed>
+        ensures names { (other : List ℕ) → TellsSame ((files_state F.holds self.old).holds other) ((files_state F.holds self.new).holds other) }
+        ensures written { Emits result bytes.now ((files_state F.holds self.old).written) ((files_state F.holds self.new).written) }
+        ensures said { TellsSame ((files_state F.holds self.old).said) ((files_state F.holds self.new).said) }
+        ensures counts { WriteCounts result (blamed Deed.Write dash) (files_state F.holds self.old) (files_state F.holds self.new) }
+        ensures sent { Sends result bytes.now (O.contents self.old.out) (O.contents self.new.out) }
+        ensures err { self.new.err ≡ self.old.err }
+    {
         match write_whole(&mut self.out, bytes) {
             Ok(()) => Ok(()),
             Err(_) => {
@@ -100,7 +130,14 @@ impl<R: Files + Drop, O: Write + Drop, E: Write + Drop> Host for FileHost<R, O, 
         }
     }
 
-    fn say(&mut self, bytes: &[u8]) -> Result<(), Failed> {
+    fn say(&mut self, bytes: &[u8]) -> Result<(), Failed>
+        ensures names { (other : List ℕ) → TellsSame ((files_state F.holds self.old).holds other) ((files_state F.holds self.new).holds other) }
+        ensures written { TellsSame ((files_state F.holds self.old).written) ((files_state F.holds self.new).written) }
+        ensures said { Emits result bytes.now ((files_state F.holds self.old).said) ((files_state F.holds self.new).said) }
+        ensures counts { SayCounts result (files_state F.holds self.old) (files_state F.holds self.new) }
+        ensures sent { Sends result bytes.now (E.contents self.old.err) (E.contents self.new.err) }
+        ensures out { self.new.out ≡ self.old.out }
+    {
         match write_whole(&mut self.err, bytes) {
             Ok(()) => Ok(()),
             Err(_) => {
@@ -109,47 +146,4 @@ impl<R: Files + Drop, O: Write + Drop, E: Write + Drop> Host for FileHost<R, O, 
             }
         }
     }
-}
-
-// Reads to the end, or `max + 1` bytes.
-fn read_whole<F: Read>(file: &mut F, max: usize, into: &mut Vec<u8>) -> Result<(), LoadFail>
-    requires { into.old.items ≡ [] }
-    ensures { Takes result None max into.new.items }
-{
-    let mut buffer = [0u8; 4096];
-    while into.len() <= max {
-        let left = max - into.len();
-        let wanted = if left < 4095 { left + 1 } else { 4096 };
-        let Ok(count) = file.read(&mut buffer[..wanted]) else {
-            return Err(LoadFail::Failed);
-        };
-        if count == 0 {
-            return Ok(());
-        }
-        if into.extend_from_slice(&buffer[..count]).is_err() {
-            return Err(LoadFail::NoMemory);
-        }
-    }
-    Err(LoadFail::TooLong)
-}
-
-fn append_whole<R: Files>(files: &R, name: &str, bytes: &[u8]) -> Result<(), Failed> {
-    let mut how = OpenOptions::new();
-    how.append(true);
-    let Ok(mut file) = how.open(files, name) else {
-        return Err(Failed);
-    };
-    write_whole(&mut file, bytes)
-}
-
-// Writes all the bytes, or fails at the first write that fails or takes nothing.
-fn write_whole<W: Write>(to: &mut W, bytes: &[u8]) -> Result<(), Failed> {
-    let mut rest = bytes;
-    while !rest.is_empty() {
-        match to.write(rest) {
-            Ok(count) if count > 0 => rest = &rest[count..],
-            _ => return Err(Failed),
-        }
-    }
-    Ok(())
 }

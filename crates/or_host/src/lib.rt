@@ -5,13 +5,18 @@ mod blame;
 mod files;
 mod host;
 mod memory;
+mod named;
 mod store;
 mod sure;
+mod whole;
 
 pub use files::FileHost;
 pub use host::{Blame, Deed, Failed, Host, LoadFail};
 pub use memory::MemHost;
+pub use named::NamedFiles;
 pub use sure::SureHost;
 
+#[cfg(test)]
+mod real_tests;
 #[cfg(test)]
 mod tests;
