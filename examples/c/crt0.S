@@ -1,4 +1,5 @@
 # What runs before main: the vectors, a stack for each core, and zeros in .bss.
+        .file   "crt0.S"
 
 #define SPR_SR       17
 #define SPR_COREID   128
