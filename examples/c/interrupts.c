@@ -1,7 +1,10 @@
 /* Tick interrupts are counted, and UART interrupts take a line of input, which is printed in capitals. One core. */
 #include "board.h"
 
-enum { PERIOD = 1000, TICKS = 5 };
+#ifndef TICKS
+#define TICKS 5
+#endif
+enum { PERIOD = 1000 };
 
 static volatile word ticks;
 static char line[64];

@@ -1,7 +1,9 @@
 /* Each core adds 1 to a counter ROUNDS times under a spin lock. Core 0 waits for the others and prints the sum. */
 #include "board.h"
 
-enum { ROUNDS = 100 };
+#ifndef ROUNDS
+#define ROUNDS 100
+#endif
 
 static volatile word lock;
 static volatile word counter;

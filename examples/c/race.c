@@ -5,7 +5,10 @@
  */
 #include "board.h"
 
-enum { ADDERS = 2, ROUNDS = 10000 };
+#ifndef ROUNDS
+#define ROUNDS 10000
+#endif
+enum { ADDERS = 2 };
 
 static volatile word total;
 static volatile word ready;
