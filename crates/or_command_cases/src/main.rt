@@ -1,0 +1,50 @@
+//! Goes through the cases of `data/`, each a few commands of the top call over a host in memory, and prints what they answer and
+//! leave behind the name of the case. docs/HACKING.md says how a case is written.
+#![tactic(auto)]
+
+mod bytes;
+mod fault;
+mod parsed;
+mod stage;
+
+use fault::CaseFault;
+use stage::Stage;
+use std::fs;
+use std::process::ExitCode;
+use std::sync::Wait;
+use std::thread::Threads;
+
+const FILES: [&str; 5] = [
+    "images.cases",
+    "line.cases",
+    "source.cases",
+    "run.cases",
+    "look.cases",
+];
+
+// Does what the lines of a file say.
+fn go_through<R: Print + Threads + Wait + Sync>(
+    rt: &R,
+    stage: &mut Stage,
+    text: &str,
+) -> Result<(), CaseFault> {
+    for line in text.lines() {
+        stage.make(rt, line)?;
+    }
+    Ok(())
+}
+
+fn main(rt: HostRuntime) -> ExitCode {
+    let mut stage = Stage::new(rt.alloc());
+    for name in FILES {
+        let Ok(text) = fs::read_to_string(&rt, name) else {
+            let _ = println!(rt; "{name} is not read");
+            return ExitCode::from(1);
+        };
+        if let Err(fault) = go_through(&rt, &mut stage, &text) {
+            let _ = println!(rt; "{name}: {fault}");
+            return ExitCode::from(1);
+        }
+    }
+    ExitCode::from(0)
+}

@@ -1,0 +1,93 @@
+// A command line as the grammar reads it: the command with the names of its files and its numbers.
+use crate::fault::CaseFault;
+use or_command_line::{Command, Recorded, Run, Workload, parse};
+
+fn print_run<R: Print>(rt: &R, run: &Run<'_>) -> Result<(), CaseFault> {
+    let Run {
+        image,
+        input,
+        schedule,
+        report,
+        config,
+    } = run;
+    print!(rt;
+        "run {image} {input} {schedule} {report} cores {} budget {}",
+        config.cores, config.budget
+    )?;
+    let form = if config.latched { "latched" } else { "level" };
+    println!(rt; " ram {} pic {form}", config.ram)?;
+    Ok(())
+}
+
+fn print_recorded<R: Print>(rt: &R, verb: &str, files: &Recorded<'_>) -> Result<(), CaseFault> {
+    let Recorded {
+        image,
+        input,
+        schedule,
+    } = files;
+    print!(rt; "{verb} {image} {input} {schedule}")?;
+    Ok(())
+}
+
+fn print_workload<R: Print>(
+    rt: &R,
+    verb: &str,
+    workload: &Workload,
+    name: &str,
+) -> Result<(), CaseFault> {
+    let Workload {
+        seed,
+        cores,
+        rounds,
+    } = workload;
+    println!(rt; "{verb} seed {seed} cores {cores} rounds {rounds} {name}")?;
+    Ok(())
+}
+
+fn print_command<R: Print>(rt: &R, command: &Command<'_>) -> Result<(), CaseFault> {
+    match command {
+        Command::Run(run) => return print_run(rt, run),
+        Command::Gen { workload, source } => return print_workload(rt, "gen", workload, source),
+        Command::Bench { workload, schedule } => {
+            return print_workload(rt, "bench", workload, schedule);
+        }
+        Command::Asm { source, image } => println!(rt; "asm {source} {image}")?,
+        Command::Dis { image } => println!(rt; "dis {image}")?,
+        Command::Replay { files, report } => {
+            print_recorded(rt, "replay", files)?;
+            println!(rt; " {report}")?;
+        }
+        Command::Debug { files, script } => {
+            print_recorded(rt, "debug", files)?;
+            println!(rt; " {script}")?;
+        }
+        Command::Back {
+            files,
+            script,
+            every,
+        } => {
+            print_recorded(rt, "back", files)?;
+            println!(rt; " {script} every {every}")?;
+        }
+        Command::Race { files } => {
+            print_recorded(rt, "race", files)?;
+            println!(rt; "")?;
+        }
+        Command::Prof { files } => {
+            print_recorded(rt, "prof", files)?;
+            println!(rt; "")?;
+        }
+    }
+    Ok(())
+}
+
+// Prints the command of these words, or `none`.
+pub(crate) fn print_parsed<R: Print>(rt: &R, words: &[String]) -> Result<(), CaseFault> {
+    match parse(words) {
+        Some(command) => print_command(rt, &command),
+        None => {
+            println!(rt; "none")?;
+            Ok(())
+        }
+    }
+}
