@@ -26,6 +26,7 @@ impl Core {
     ghost use Rattle.or_core.specs.Access.{access_of_word, step_access};
 
     /// Makes the next step where it needs no bus. NeedsBus and Stopped change nothing.
+    #[inline(always)]
     #[tactic(auto, unfolding(or_model::specs::Step::is_private, or_model::specs::Step::private_step, or_model::specs::Step::step, or_model::specs::Step::step_by_word, crate::specs::Access::step_access))]
     pub fn try_private(&mut self) -> Private
         ensures tried { IsPrivateStep result self.old self.new }

@@ -25,7 +25,7 @@ const OVE: u32 = 0x1000;
 
 impl Core {
     // The set flag.
-    #[inline]
+    #[inline(always)]
     pub(crate) fn flag(&self) -> bool
         ensures { result ≡ flag self.now }
     {
@@ -41,7 +41,7 @@ impl Core {
     }
 
     // A value goes to register d.
-    #[inline]
+    #[inline(always)]
     #[tactic(auto, unfolding(or_model::specs::Execute::put))]
     pub(crate) fn put(&mut self, d: u32, v: u32)
         requires { d < 32 }
@@ -53,7 +53,7 @@ impl Core {
     }
 
     // A result with CY and OV, unless an overflow is a range exception: then nothing is written.
-    #[inline]
+    #[inline(always)]
     #[tactic(auto, unfolding(or_model::specs::Execute::put_with_flags))]
     fn put_with_flags(&mut self, d: u32, v: u32, cy: bool, ov: bool) -> Result<(), Cause>
         requires { d < 32 }
@@ -71,7 +71,7 @@ impl Core {
     }
 
     // A result with OV alone.
-    #[inline]
+    #[inline(always)]
     #[tactic(auto, unfolding(or_model::specs::Execute::put_with_overflow))]
     fn put_with_overflow(&mut self, d: u32, v: u32, ov: bool) -> Result<(), Cause>
         requires { d < 32 }
@@ -99,7 +99,7 @@ impl Core {
         self.put(d, v);
     }
 
-    #[inline]
+    #[inline(always)]
     fn set_carry(&mut self, cy: bool)
         ensures state { self.new ≡ with_carry self.old cy }
         ensures counts { SameCounts self.old self.new }
@@ -107,7 +107,7 @@ impl Core {
         self.sprs.set_carry(cy);
     }
 
-    #[inline]
+    #[inline(always)]
     fn set_overflow(&mut self, ov: bool)
         ensures state { self.new ≡ with_overflow self.old ov }
         ensures counts { SameCounts self.old self.new }
@@ -115,7 +115,7 @@ impl Core {
         self.sprs.set_overflow(ov);
     }
 
-    #[inline]
+    #[inline(always)]
     #[tactic(auto, unfolding(or_model::specs::Execute::put_sum))]
     pub(crate) fn put_sum(&mut self, d: u32, a: u32, b: u32, c: bool) -> Result<(), Cause>
         requires { d < 32 }
@@ -127,7 +127,7 @@ impl Core {
         self.put_with_flags(d, value, cy, ov)
     }
 
-    #[inline]
+    #[inline(always)]
     #[tactic(auto, unfolding(or_model::specs::Execute::put_difference))]
     pub(crate) fn put_difference(&mut self, d: u32, a: u32, b: u32) -> Result<(), Cause>
         requires { d < 32 }
@@ -139,7 +139,7 @@ impl Core {
         self.put_with_flags(d, value, cy, ov)
     }
 
-    #[inline]
+    #[inline(always)]
     #[tactic(auto, unfolding(or_model::specs::Execute::put_product))]
     pub(crate) fn put_product(&mut self, d: u32, a: u32, b: u32) -> Result<(), Cause>
         requires { d < 32 }
@@ -188,7 +188,7 @@ impl Core {
     }
 
     // A shifted or rotated word.
-    #[inline]
+    #[inline(always)]
     #[tactic(auto, unfolding(or_model::specs::Execute::put_shifted))]
     pub(crate) fn put_shifted(&mut self, d: u32, kind: ShiftKind, a: u32, n: u32)
         requires { d < 32 }
@@ -242,7 +242,7 @@ impl Core {
         self.put(d, if self.flag() { a } else { b });
     }
 
-    #[inline]
+    #[inline(always)]
     pub(crate) fn set_flag(&mut self, f: bool)
         ensures state { self.new ≡ record self.old { sr = with_bits self.old.sr 0x200 f } }
         ensures counts { SameCounts self.old self.new }
@@ -251,7 +251,7 @@ impl Core {
     }
 
     // The set flag becomes the comparison of two words.
-    #[inline]
+    #[inline(always)]
     #[tactic(auto, unfolding(or_model::specs::Execute::put_comparison, or_model::specs::Execute::put_flag))]
     pub(crate) fn put_comparison(&mut self, code: CompareCode, a: u32, b: u32)
         ensures state { self.new ≡ put_comparison self.old code a b }
@@ -294,7 +294,7 @@ impl Core {
     }
 
     // The destination of a jump by so many words.
-    #[inline]
+    #[inline(always)]
     #[tactic(auto, unfolding(or_model::specs::Execute::destination))]
     pub(crate) fn destination(&self, n: i32) -> u32
         requires { IsSigned 25 n }
@@ -314,7 +314,7 @@ impl Core {
     }
 
     // A branch sets its delay slot's destination whether it is taken or not.
-    #[inline]
+    #[inline(always)]
     #[tactic(auto, unfolding(or_model::specs::Execute::branched_where))]
     pub(crate) fn branch_where(&mut self, taken: bool, n: i32)
         requires { IsSigned 25 n }
@@ -341,7 +341,7 @@ impl Core {
     }
 
     // l.nop 1 stops the core with what r3 reads.
-    #[inline]
+    #[inline(always)]
     #[tactic(auto, unfolding(or_model::specs::Execute::after_nop))]
     pub(crate) fn nop(&mut self, k: u32)
         ensures state { self.new ≡ next_instruction (after_nop self.old k) }

@@ -204,7 +204,7 @@ impl Core {
     }
 
     /// What general register `n` reads; r0 is 0.
-    #[inline]
+    #[inline(always)]
     pub fn register(&self, n: u32) -> u32
         requires { n < 32 }
         ensures { result ≡ register self.now n }
@@ -212,7 +212,7 @@ impl Core {
         self.registers[n as usize]
     }
 
-    #[inline]
+    #[inline(always)]
     pub(crate) fn set_register(&mut self, n: u32, v: u32)
         requires { n < 32 }
         ensures state { self.new ≡ set_register self.old n v }
@@ -224,7 +224,7 @@ impl Core {
     }
 
     // The core goes on behind an instruction that is no jump.
-    #[inline]
+    #[inline(always)]
     #[tactic(auto, unfolding(or_model::specs::Core::next_instruction))]
     pub(crate) fn go_on(&mut self)
         ensures state { self.new ≡ next_instruction self.old }
@@ -240,7 +240,7 @@ impl Core {
     }
 
     // A jump: the next instruction stands in its delay slot.
-    #[inline]
+    #[inline(always)]
     #[tactic(auto, unfolding(or_model::specs::Core::branched))]
     pub(crate) fn branch_to(&mut self, destination: u32)
         ensures state { self.new ≡ branched self.old destination }
@@ -274,7 +274,7 @@ impl Core {
     }
 
     // One step more; a core that reaches its budget stops, unless it has stopped by itself.
-    #[inline]
+    #[inline(always)]
     #[tactic(auto, unfolding(or_model::specs::Step::with_step_counted))]
     pub(crate) fn count_step(&mut self)
         requires { self.old.steps < self.old.budget }
@@ -289,7 +289,7 @@ impl Core {
     }
 
     // The instruction retires: the tick timer counts it.
-    #[inline]
+    #[inline(always)]
     #[tactic(auto, unfolding(or_model::specs::Step::retired, or_model::specs::Step::with_step_counted))]
     pub(crate) fn retire(&mut self)
         requires { self.old.steps < self.old.budget }
@@ -302,7 +302,7 @@ impl Core {
     }
 
     // The interrupt that is due, which none is in a delay slot; the tick comes first.
-    #[inline]
+    #[inline(always)]
     #[tactic(auto, unfolding(or_model::specs::Step::due_interrupt))]
     pub(crate) fn due_interrupt(&self) -> Option<Cause>
         ensures { result ≡ due_interrupt self.now }

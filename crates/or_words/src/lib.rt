@@ -79,6 +79,7 @@ pub enum MacKind {
 }
 
 /// The sum of two words and a carry, with the carry out and the overflow.
+#[inline(always)]
 pub fn add(a: u32, b: u32, carry: bool) -> (u32, bool, bool)
     ensures sum { result.0 ≡ unsigned_sum a b carry % 2 ^ 32 }
     ensures carry { result.1 ≡ exceeds_unsigned (unsigned_sum a b carry) }
@@ -92,12 +93,14 @@ pub fn add(a: u32, b: u32, carry: bool) -> (u32, bool, bool)
     )
 }
 
+#[inline(always)]
 fn signed_sum(a: u32, b: u32, carry: bool) -> i64
     ensures { result ≡ signed_sum a b carry }
 {
     i64::from(a.cast_signed()) + i64::from(b.cast_signed()) + i64::from(carry_value(carry))
 }
 
+#[inline(always)]
 fn carry_value(carry: bool) -> u8
     ensures { result ≡ (if carry then 1 else 0) }
 {
@@ -105,6 +108,7 @@ fn carry_value(carry: bool) -> u8
 }
 
 // The low 32 bits.
+#[inline(always)]
 fn low_word(value: u64) -> u32
     ensures { result ≡ value % 2 ^ 32 }
 {
@@ -112,6 +116,7 @@ fn low_word(value: u64) -> u32
 }
 
 // A signed value does not fit 32 bits.
+#[inline(always)]
 fn exceeds_signed(value: i64) -> bool
     ensures { result ≡ exceeds_signed value }
 {
@@ -119,6 +124,7 @@ fn exceeds_signed(value: i64) -> bool
 }
 
 /// The difference of two words, with the borrow and the overflow.
+#[inline(always)]
 pub fn sub(a: u32, b: u32) -> (u32, bool, bool)
     ensures difference { result.0 ≡ (a + 2 ^ 32 - b) % 2 ^ 32 }
     ensures borrow { result.1 ≡ nat_lt a b }
@@ -129,6 +135,7 @@ pub fn sub(a: u32, b: u32) -> (u32, bool, bool)
 }
 
 /// The product of two words, with the overflow of the signed product.
+#[inline(always)]
 pub fn mul(a: u32, b: u32) -> (u32, bool)
     ensures product { result.0 ≡ a * b % 2 ^ 32 }
     ensures overflow { result.1 ≡ exceeds_signed (signed a *ℤ signed b) }
@@ -169,6 +176,7 @@ pub fn divu(a: u32, b: u32) -> (u32, bool)
 }
 
 /// A shift or a rotation by the low five bits of `n`.
+#[inline(always)]
 pub fn shift(kind: ShiftKind, a: u32, n: u32) -> u32
     ensures { result ≡ shifted kind a n }
 {
@@ -182,6 +190,7 @@ pub fn shift(kind: ShiftKind, a: u32, n: u32) -> u32
 }
 
 /// The low half or byte, extended to a word.
+#[inline(always)]
 pub fn extend(kind: ExtendKind, a: u32) -> u32
     ensures { result ≡ extended kind a }
 {
@@ -194,12 +203,14 @@ pub fn extend(kind: ExtendKind, a: u32) -> u32
     }
 }
 
+#[inline(always)]
 fn low_half(a: u32) -> u16
     ensures { result ≡ a % 2 ^ 16 }
 {
     (a & 0xffff) as u16
 }
 
+#[inline(always)]
 fn low_byte(a: u32) -> u8
     ensures { result ≡ a % 2 ^ 8 }
 {
@@ -223,6 +234,7 @@ pub fn fl1(a: u32) -> u32
 }
 
 /// Whether the comparison holds.
+#[inline(always)]
 pub fn compare(code: CompareCode, a: u32, b: u32) -> bool
     ensures { result ≡ compares code a b }
 {
