@@ -3,7 +3,7 @@ use Rattle.std.proofs.Common.{◌≡◌, ℕ, Bool, true, false, cond, refl, ap,
 use Rattle.std.specs.Prelude.{List, Option, Some, None, Ok, Err, ◌&&◌, option_map}
 use Rattle.or_words.specs.declared.Width.TheVariants.{Word}
 use Rattle.or_isa.specs.declared.Insn.{Insn}
-use Rattle.or_isa.specs.declared.Insn.TheVariants.{Lwa, Lwz, Lws, Lbz, Lbs, Lhz, Lhs, Swa, Sw, Sb, Sh}
+use Rattle.or_isa.specs.declared.Insn.TheVariants.{Load, LoadLinked, Store, StoreConditional}
 use Rattle.or_model.specs.Core.{Core}
 use Rattle.or_parts.specs.Memory.{value_at}
 use Rattle.or_parts.specs.Lines.{line_bytes}
@@ -21,17 +21,10 @@ use Rattle.or_core.specs.Access.{memory_operand, access_of_word, word_fetched}
 -- an instruction that may not stand where it does, or not in its mode, goes nowhere in memory
 pub misplaced_none : (core : Core) (insn : Insn) → is_misplaced core insn ≡ true → memory_operand insn ≡ None
 unfolding is_misplaced
-misplaced_none core (Lwa d a i) bad = absurd (search rules)
-misplaced_none core (Lwz d a i) bad = absurd (search rules)
-misplaced_none core (Lws d a i) bad = absurd (search rules)
-misplaced_none core (Lbz d a i) bad = absurd (search rules)
-misplaced_none core (Lbs d a i) bad = absurd (search rules)
-misplaced_none core (Lhz d a i) bad = absurd (search rules)
-misplaced_none core (Lhs d a i) bad = absurd (search rules)
-misplaced_none core (Swa a b i) bad = absurd (search rules)
-misplaced_none core (Sw a b i) bad = absurd (search rules)
-misplaced_none core (Sb a b i) bad = absurd (search rules)
-misplaced_none core (Sh a b i) bad = absurd (search rules)
+misplaced_none core (Load width extended d a i) bad = absurd (search rules)
+misplaced_none core (LoadLinked d a i) bad = absurd (search rules)
+misplaced_none core (Store width a b i) bad = absurd (search rules)
+misplaced_none core (StoreConditional a b i) bad = absurd (search rules)
 misplaced_none core _ bad = refl
 
 -- a line that is kept changes no access

@@ -2,9 +2,9 @@
 use Rattle.std.specs.Prelude.{ℕ, ℤ, Bool, true, ◌&&◌, if◌then◌else◌, Option, Some, None, option_and_then, option_map}
 use Rattle.std.specs.Option.{option_or}
 use Rattle.or_words.specs.declared.Width.{Width}
-use Rattle.or_words.specs.declared.Width.TheVariants.{Byte, Half, Word}
+use Rattle.or_words.specs.declared.Width.TheVariants.{Word}
 use Rattle.or_isa.specs.declared.Insn.{Insn}
-use Rattle.or_isa.specs.declared.Insn.TheVariants.{Lwa, Lwz, Lws, Lbz, Lbs, Lhz, Lhs, Swa, Sw, Sb, Sh}
+use Rattle.or_isa.specs.declared.Insn.TheVariants as insn
 use Rattle.or_isa.specs.Decode.{decode_of}
 use Rattle.or_parts.specs.declared.Cause.{Cause}
 use Rattle.or_parts.specs.declared.Right.{Right}
@@ -31,17 +31,10 @@ pub record MemoryOperand : Type 0 where
   pub offset : ℤ
 
 abbrev pub memory_operand : Insn → Option MemoryOperand
-memory_operand (Lwz d a i) = Some (record { kind = Load; width = Word; base = a; offset = i })
-memory_operand (Lws d a i) = Some (record { kind = Load; width = Word; base = a; offset = i })
-memory_operand (Lhz d a i) = Some (record { kind = Load; width = Half; base = a; offset = i })
-memory_operand (Lhs d a i) = Some (record { kind = Load; width = Half; base = a; offset = i })
-memory_operand (Lbz d a i) = Some (record { kind = Load; width = Byte; base = a; offset = i })
-memory_operand (Lbs d a i) = Some (record { kind = Load; width = Byte; base = a; offset = i })
-memory_operand (Sw a b i) = Some (record { kind = Store; width = Word; base = a; offset = i })
-memory_operand (Sh a b i) = Some (record { kind = Store; width = Half; base = a; offset = i })
-memory_operand (Sb a b i) = Some (record { kind = Store; width = Byte; base = a; offset = i })
-memory_operand (Lwa d a i) = Some (record { kind = Linked; width = Word; base = a; offset = i })
-memory_operand (Swa a b i) = Some (record { kind = Conditional; width = Word; base = a; offset = i })
+memory_operand (insn.Load width signed d a i) = Some (record { kind = Load; width = width; base = a; offset = i })
+memory_operand (insn.Store width a b i) = Some (record { kind = Store; width = width; base = a; offset = i })
+memory_operand (insn.LoadLinked d a i) = Some (record { kind = Linked; width = Word; base = a; offset = i })
+memory_operand (insn.StoreConditional a b i) = Some (record { kind = Conditional; width = Word; base = a; offset = i })
 memory_operand _ = None
 
 -- the right that it needs

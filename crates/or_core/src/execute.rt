@@ -1,16 +1,14 @@
 //! Instructions that ask nothing of the bus (OpenRISC 1000 Architecture Manual, chapter 5, ORBIS32).
 
 ghost use Rattle.std.specs.Prelude.{◌≡◌, ◌<◌, MatchResult, OnErr, Ok, Err};
-ghost use Rattle.or_isa.specs.Fits.{Fits};
-ghost use Rattle.or_model.specs.Execute.{executed, put_comparison, put_shifted, put_accumulator};
-ghost use Rattle.or_model.specs.Core.{register};
-ghost use Rattle.or_parts.specs.Bits.{immediate};
+ghost use Rattle.or_isa.specs.Fits.{Fits, IsSigned};
+ghost use Rattle.or_model.specs.Execute.{executed, extension, on_registers, put_arithmetic, jumped, branched_on};
 ghost use Rattle.or_model.specs.Counts.{SameCounts};
 
 use crate::state::Core;
-use or_isa::Insn;
+use or_isa::{ArithmeticKind, ImmediateKind, Insn};
 use or_parts::Cause;
-use or_words::{CompareCode, ExtendKind, MacKind, ShiftKind};
+use or_words::{ExtendKind, MacKind, Width};
 
 impl Core {
     // Executes an instruction, or meets an exception and changes nothing. Those that ask the bus have
@@ -24,23 +22,19 @@ impl Core {
         ensures counts { SameCounts self.old self.new }
     {
         match insn {
-            Insn::J { n } => {
-                self.branch_to(self.destination(n));
+            Insn::Jump { link, n } => {
+                self.jump(link, self.destination(n));
                 Ok(())
             }
-            Insn::Jal { n } => {
-                self.call(self.destination(n));
+            Insn::Branch { on, n } => {
+                self.branch_on(on, n);
                 Ok(())
             }
-            Insn::Bnf { n } => {
-                self.branch_where(!self.flag(), n);
+            Insn::JumpRegister { link, b } => {
+                self.jump(link, self.register(b));
                 Ok(())
             }
-            Insn::Bf { n } => {
-                self.branch_where(self.flag(), n);
-                Ok(())
-            }
-            Insn::Adrp { d, n } => {
+            Insn::PageAddress { d, n } => {
                 self.put(d, self.page_address(n));
                 Ok(())
             }
@@ -48,315 +42,192 @@ impl Core {
                 self.nop(k);
                 Ok(())
             }
-            Insn::Sys { .. } => Err(Cause::Syscall),
+            Insn::SystemCall { .. } => Err(Cause::Syscall),
             Insn::Trap { .. } => Err(Cause::Trap),
-            Insn::Movhi { d, k } => {
+            Insn::MoveHigh { d, k } => {
                 self.put(d, k * 65536);
                 Ok(())
             }
-            Insn::Macrc { d } => {
+            Insn::TakeAccumulator { d } => {
                 self.take_accumulator(d);
                 Ok(())
             }
-            Insn::Msync | Insn::Psync | Insn::Csync => {
+            Insn::Sync { .. } => {
                 self.go_on();
                 Ok(())
             }
-            Insn::Rfe => {
+            Insn::ReturnFromException => {
                 self.leave();
                 Ok(())
             }
-            Insn::Jr { b } => {
-                self.branch_to(self.register(b));
-                Ok(())
-            }
-            Insn::Jalr { b } => {
-                self.call(self.register(b));
-                Ok(())
-            }
-            Insn::Maci { a, i } => {
-                self.accumulate(MacKind::Plus, self.register(a), i.cast_unsigned());
-                Ok(())
-            }
-            Insn::Addi { d, a, i } => self.put_sum(d, self.register(a), i.cast_unsigned(), false),
-            Insn::Addic { d, a, i } => self.put_sum(
+            Insn::ArithmeticImmediate { kind, d, a, i } => self.arithmetic_immediate(
+                kind,
                 d,
                 self.register(a),
                 i.cast_unsigned(),
-                self.carry(),
             ),
-            Insn::Xori { d, a, i } => {
-                self.put(d, self.register(a) ^ i.cast_unsigned());
-                Ok(())
-            }
-            Insn::Muli { d, a, i } => self.put_product(d, self.register(a), i.cast_unsigned()),
-            Insn::Andi { d, a, k } => {
+            Insn::AndImmediate { d, a, k } => {
                 self.put(d, self.register(a) & k);
                 Ok(())
             }
-            Insn::Ori { d, a, k } => {
+            Insn::OrImmediate { d, a, k } => {
                 self.put(d, self.register(a) | k);
                 Ok(())
             }
-            Insn::Mfspr { d, a, k } => {
+            Insn::MoveFromSpecial { d, a, k } => {
                 self.put(d, self.special(self.register(a) | k));
                 Ok(())
             }
-            Insn::Slli { d, a, l } => {
-                self.put_shifted(d, ShiftKind::Lower, self.register(a), l);
-                Ok(())
-            }
-            Insn::Srli { d, a, l } => {
-                self.put_shifted(d, ShiftKind::Upper, self.register(a), l);
-                Ok(())
-            }
-            Insn::Srai { d, a, l } => {
-                self.put_shifted(d, ShiftKind::Arithmetic, self.register(a), l);
-                Ok(())
-            }
-            Insn::Rori { d, a, l } => {
-                self.put_shifted(d, ShiftKind::Rotate, self.register(a), l);
-                Ok(())
-            }
-            Insn::Sfeqi { a, i } => {
-                self.compare_immediate(CompareCode::Eq, a, i);
-                Ok(())
-            }
-            Insn::Sfnei { a, i } => {
-                self.compare_immediate(CompareCode::Ne, a, i);
-                Ok(())
-            }
-            Insn::Sfgtui { a, i } => {
-                self.compare_immediate(CompareCode::Gtu, a, i);
-                Ok(())
-            }
-            Insn::Sfgeui { a, i } => {
-                self.compare_immediate(CompareCode::Geu, a, i);
-                Ok(())
-            }
-            Insn::Sfltui { a, i } => {
-                self.compare_immediate(CompareCode::Ltu, a, i);
-                Ok(())
-            }
-            Insn::Sfleui { a, i } => {
-                self.compare_immediate(CompareCode::Leu, a, i);
-                Ok(())
-            }
-            Insn::Sfgtsi { a, i } => {
-                self.compare_immediate(CompareCode::Gts, a, i);
-                Ok(())
-            }
-            Insn::Sfgesi { a, i } => {
-                self.compare_immediate(CompareCode::Ges, a, i);
-                Ok(())
-            }
-            Insn::Sfltsi { a, i } => {
-                self.compare_immediate(CompareCode::Lts, a, i);
-                Ok(())
-            }
-            Insn::Sflesi { a, i } => {
-                self.compare_immediate(CompareCode::Les, a, i);
-                Ok(())
-            }
-            Insn::Mtspr { a, b, k } => {
+            Insn::MoveToSpecial { a, b, k } => {
                 self.set_special(self.register(a) | k, self.register(b));
                 self.go_on();
                 Ok(())
             }
-            Insn::Mac { a, b } => {
-                self.accumulate_registers(MacKind::Plus, a, b);
+            Insn::ShiftImmediate { kind, d, a, l } => {
+                self.put_shifted(d, kind, self.register(a), l);
                 Ok(())
             }
-            Insn::Msb { a, b } => {
-                self.accumulate_registers(MacKind::Minus, a, b);
+            Insn::Shift { kind, d, a, b } => {
+                self.put_shifted(d, kind, self.register(a), self.register(b));
                 Ok(())
             }
-            Insn::Macu { a, b } => {
-                self.accumulate_registers(MacKind::PlusUnsigned, a, b);
+            Insn::CompareImmediate { code, a, i } => {
+                self.put_comparison(code, self.register(a), i.cast_unsigned());
                 Ok(())
             }
-            Insn::Msbu { a, b } => {
-                self.accumulate_registers(MacKind::MinusUnsigned, a, b);
+            Insn::Compare { code, a, b } => {
+                self.put_comparison(code, self.register(a), self.register(b));
                 Ok(())
             }
-            Insn::Add { d, a, b } => self.put_sum(d, self.register(a), self.register(b), false),
-            Insn::Addc { d, a, b } => self.put_sum(
-                d,
-                self.register(a),
-                self.register(b),
-                self.carry(),
-            ),
-            Insn::Sub { d, a, b } => self.put_difference(d, self.register(a), self.register(b)),
-            Insn::And { d, a, b } => {
-                self.put(d, self.register(a) & self.register(b));
+            Insn::AccumulateImmediate { a, i } => {
+                self.accumulate(MacKind::Plus, self.register(a), i.cast_unsigned());
                 Ok(())
             }
-            Insn::Or { d, a, b } => {
-                self.put(d, self.register(a) | self.register(b));
+            Insn::Accumulate { kind, a, b } => {
+                self.accumulate(kind, self.register(a), self.register(b));
                 Ok(())
             }
-            Insn::Xor { d, a, b } => {
-                self.put(d, self.register(a) ^ self.register(b));
+            Insn::Arithmetic { kind, d, a, b } => self.arithmetic(kind, d, self.register(a), self.register(b)),
+            Insn::Extend { width, signed, d, a } => {
+                self.put_extended(d, extension(width, signed), self.register(a));
                 Ok(())
             }
-            Insn::Cmov { d, a, b } => {
-                self.put_chosen(d, self.register(a), self.register(b));
-                Ok(())
-            }
-            Insn::Mul { d, a, b } => self.put_product(d, self.register(a), self.register(b)),
-            Insn::Div { d, a, b } => self.put_quotient(d, self.register(a), self.register(b)),
-            Insn::Divu { d, a, b } => {
-                self.put_unsigned_quotient(d, self.register(a), self.register(b));
-                Ok(())
-            }
-            Insn::Mulu { d, a, b } => {
-                self.put_unsigned_product(d, self.register(a), self.register(b));
-                Ok(())
-            }
-            Insn::Sll { d, a, b } => {
-                self.shift_registers(d, ShiftKind::Lower, a, b);
-                Ok(())
-            }
-            Insn::Srl { d, a, b } => {
-                self.shift_registers(d, ShiftKind::Upper, a, b);
-                Ok(())
-            }
-            Insn::Sra { d, a, b } => {
-                self.shift_registers(d, ShiftKind::Arithmetic, a, b);
-                Ok(())
-            }
-            Insn::Ror { d, a, b } => {
-                self.shift_registers(d, ShiftKind::Rotate, a, b);
-                Ok(())
-            }
-            Insn::Muld { a, b } => {
-                self.accumulate_registers(MacKind::Set, a, b);
-                Ok(())
-            }
-            Insn::Muldu { a, b } => {
-                self.accumulate_registers(MacKind::SetUnsigned, a, b);
-                Ok(())
-            }
-            Insn::Ff1 { d, a } => {
+            Insn::FindFirst { d, a } => {
                 self.put_lowest_one(d, self.register(a));
                 Ok(())
             }
-            Insn::Fl1 { d, a } => {
+            Insn::FindLast { d, a } => {
                 self.put_highest_one(d, self.register(a));
                 Ok(())
             }
-            Insn::Exths { d, a } => {
-                self.put_extended(d, ExtendKind::HalfSigned, self.register(a));
-                Ok(())
-            }
-            Insn::Extbs { d, a } => {
-                self.put_extended(d, ExtendKind::ByteSigned, self.register(a));
-                Ok(())
-            }
-            Insn::Exthz { d, a } => {
-                self.put_extended(d, ExtendKind::HalfZero, self.register(a));
-                Ok(())
-            }
-            Insn::Extbz { d, a } => {
-                self.put_extended(d, ExtendKind::ByteZero, self.register(a));
-                Ok(())
-            }
-            Insn::Extws { d, a } | Insn::Extwz { d, a } => {
-                self.put(d, self.register(a));
-                Ok(())
-            }
-            Insn::Sfeq { a, b } => {
-                self.compare_registers(CompareCode::Eq, a, b);
-                Ok(())
-            }
-            Insn::Sfne { a, b } => {
-                self.compare_registers(CompareCode::Ne, a, b);
-                Ok(())
-            }
-            Insn::Sfgtu { a, b } => {
-                self.compare_registers(CompareCode::Gtu, a, b);
-                Ok(())
-            }
-            Insn::Sfgeu { a, b } => {
-                self.compare_registers(CompareCode::Geu, a, b);
-                Ok(())
-            }
-            Insn::Sfltu { a, b } => {
-                self.compare_registers(CompareCode::Ltu, a, b);
-                Ok(())
-            }
-            Insn::Sfleu { a, b } => {
-                self.compare_registers(CompareCode::Leu, a, b);
-                Ok(())
-            }
-            Insn::Sfgts { a, b } => {
-                self.compare_registers(CompareCode::Gts, a, b);
-                Ok(())
-            }
-            Insn::Sfges { a, b } => {
-                self.compare_registers(CompareCode::Ges, a, b);
-                Ok(())
-            }
-            Insn::Sflts { a, b } => {
-                self.compare_registers(CompareCode::Lts, a, b);
-                Ok(())
-            }
-            Insn::Sfles { a, b } => {
-                self.compare_registers(CompareCode::Les, a, b);
-                Ok(())
-            }
-            Insn::Lwa { .. }
-            | Insn::Lwz { .. }
-            | Insn::Lws { .. }
-            | Insn::Lbz { .. }
-            | Insn::Lbs { .. }
-            | Insn::Lhz { .. }
-            | Insn::Lhs { .. }
-            | Insn::Swa { .. }
-            | Insn::Sw { .. }
-            | Insn::Sb { .. }
-            | Insn::Sh { .. } => Err(Cause::Illegal),
+            Insn::Load { .. }
+            | Insn::LoadLinked { .. }
+            | Insn::Store { .. }
+            | Insn::StoreConditional { .. } => Err(Cause::Illegal),
         }
     }
 
-    // Results of operations on registers: one call each in `execute`, whose proof grows with its calls.
+    // An operation on two words, with its flags.
     #[inline(always)]
-    fn compare_registers(&mut self, code: CompareCode, a: u32, b: u32)
-        requires a { a < 32 }
-        requires b { b < 32 }
-        ensures state { self.new ≡ put_comparison self.old code (register self.old a) (register self.old b) }
+    #[tactic(auto, unfolding(or_model::specs::Execute::put_arithmetic))]
+    fn arithmetic(&mut self, kind: ArithmeticKind, d: u32, a: u32, b: u32) -> Result<(), Cause>
+        requires { d < 32 }
+        ensures outcome { MatchResult result (λ _. put_arithmetic self.old kind d a b ≡ Ok self.new) (λ e. put_arithmetic self.old kind d a b ≡ Err e) }
+        ensures err { OnErr result (self.new ≡ self.old) }
         ensures counts { SameCounts self.old self.new }
     {
-        self.put_comparison(code, self.register(a), self.register(b));
+        match kind {
+            ArithmeticKind::Add => self.put_sum(d, a, b, false),
+            ArithmeticKind::AddWithCarry => self.put_sum(d, a, b, self.carry()),
+            ArithmeticKind::Subtract => self.put_difference(d, a, b),
+            ArithmeticKind::And => {
+                self.put(d, a & b);
+                Ok(())
+            }
+            ArithmeticKind::Or => {
+                self.put(d, a | b);
+                Ok(())
+            }
+            ArithmeticKind::Xor => {
+                self.put(d, a ^ b);
+                Ok(())
+            }
+            ArithmeticKind::Choose => {
+                self.put_chosen(d, a, b);
+                Ok(())
+            }
+            ArithmeticKind::Multiply => self.put_product(d, a, b),
+            ArithmeticKind::Divide => self.put_quotient(d, a, b),
+            ArithmeticKind::DivideUnsigned => {
+                self.put_unsigned_quotient(d, a, b);
+                Ok(())
+            }
+            ArithmeticKind::MultiplyUnsigned => {
+                self.put_unsigned_product(d, a, b);
+                Ok(())
+            }
+        }
     }
 
+    // The operation on registers that does the same.
     #[inline(always)]
-    fn compare_immediate(&mut self, code: CompareCode, a: u32, i: i32)
-        requires a { a < 32 }
-        ensures state { self.new ≡ put_comparison self.old code (register self.old a) (immediate i) }
+    fn arithmetic_immediate(
+        &mut self,
+        kind: ImmediateKind,
+        d: u32,
+        a: u32,
+        b: u32,
+    ) -> Result<(), Cause>
+        requires { d < 32 }
+        ensures outcome { MatchResult result (λ _. put_arithmetic self.old (on_registers kind) d a b ≡ Ok self.new) (λ e. put_arithmetic self.old (on_registers kind) d a b ≡ Err e) }
+        ensures err { OnErr result (self.new ≡ self.old) }
         ensures counts { SameCounts self.old self.new }
     {
-        self.put_comparison(code, self.register(a), i.cast_unsigned());
+        match kind {
+            ImmediateKind::Add => self.arithmetic(ArithmeticKind::Add, d, a, b),
+            ImmediateKind::AddWithCarry => self.arithmetic(ArithmeticKind::AddWithCarry, d, a, b),
+            ImmediateKind::Xor => self.arithmetic(ArithmeticKind::Xor, d, a, b),
+            ImmediateKind::Multiply => self.arithmetic(ArithmeticKind::Multiply, d, a, b),
+        }
     }
 
+    // A jump, which is a call where it sets the link register.
     #[inline(always)]
-    fn shift_registers(&mut self, d: u32, kind: ShiftKind, a: u32, b: u32)
-        requires d { d < 32 }
-        requires a { a < 32 }
-        requires b { b < 32 }
-        ensures state { self.new ≡ put_shifted self.old d kind (register self.old a) (register self.old b) }
+    #[tactic(auto, unfolding(or_model::specs::Execute::jumped))]
+    fn jump(&mut self, link: bool, to: u32)
+        ensures state { self.new ≡ jumped self.old link to }
         ensures counts { SameCounts self.old self.new }
     {
-        self.put_shifted(d, kind, self.register(a), self.register(b));
+        if link {
+            self.call(to);
+        } else {
+            self.branch_to(to);
+        }
     }
 
+    // A branch, taken where the flag is as `on` says.
     #[inline(always)]
-    fn accumulate_registers(&mut self, kind: MacKind, a: u32, b: u32)
-        requires a { a < 32 }
-        requires b { b < 32 }
-        ensures state { self.new ≡ put_accumulator self.old kind (register self.old a) (register self.old b) }
+    #[tactic(auto, unfolding(or_model::specs::Execute::branched_on))]
+    fn branch_on(&mut self, on: bool, n: i32)
+        requires { IsSigned 25 n }
+        ensures state { self.new ≡ branched_on self.old on n }
         ensures counts { SameCounts self.old self.new }
     {
-        self.accumulate(kind, self.register(a), self.register(b));
+        let flag = self.flag();
+        self.branch_where(if on { flag } else { !flag }, n);
+    }
+}
+
+// How the value of a load or of an extension fills a word.
+#[inline(always)]
+pub(crate) fn extension(width: Width, signed: bool) -> ExtendKind
+    ensures { result ≡ extension width signed }
+{
+    match (width, signed) {
+        (Width::Byte, true) => ExtendKind::ByteSigned,
+        (Width::Byte, false) => ExtendKind::ByteZero,
+        (Width::Half, true) => ExtendKind::HalfSigned,
+        (Width::Half, false) => ExtendKind::HalfZero,
+        (Width::Word, _) => ExtendKind::Whole,
     }
 }

@@ -14,12 +14,12 @@ ghost use Rattle.or_core.specs.Follows.{IsState, IsOutcome, IsAlignedBy, KeepsBu
 ghost use Rattle.or_core.specs.Access.{memory_operand, access_by, access_of_word, word_fetched, step_access};
 
 use crate::data_access::UNCACHED;
+use crate::execute::extension;
 use crate::state::{Core, has};
 use or_bus::Bus;
 use or_isa::{Insn, decode, needs_bus};
 use or_model::Route;
 use or_parts::{Cause, Right, TlbFault};
-use or_words::{ExtendKind, Width};
 
 /// SR's supervisor mode, instruction cache enable and instruction MMU enable.
 const SM: u32 = 0x1;
@@ -70,14 +70,11 @@ impl Core {
         ensures { result ≡ is_misplaced self.now insn.now }
     {
         match insn {
-            Insn::J { .. }
-            | Insn::Jal { .. }
-            | Insn::Bnf { .. }
-            | Insn::Bf { .. }
-            | Insn::Jr { .. }
-            | Insn::Jalr { .. } => self.branch.is_some(),
-            Insn::Rfe => self.branch.is_some() || !has(self.sprs.sr(), SM),
-            Insn::Mfspr { .. } | Insn::Mtspr { .. } => !has(self.sprs.sr(), SM),
+            Insn::Jump { .. } | Insn::Branch { .. } | Insn::JumpRegister { .. } => {
+                self.branch.is_some()
+            }
+            Insn::ReturnFromException => self.branch.is_some() || !has(self.sprs.sr(), SM),
+            Insn::MoveFromSpecial { .. } | Insn::MoveToSpecial { .. } => !has(self.sprs.sr(), SM),
             _ => false,
         }
     }
@@ -89,7 +86,7 @@ impl Core {
         ensures { result ≡ spr_number self.now insn.now }
     {
         match insn {
-            Insn::Mtspr { a, k, .. } => self.register(*a) | *k,
+            Insn::MoveToSpecial { a, k, .. } => self.register(*a) | *k,
             _ => 0,
         }
     }
@@ -157,73 +154,26 @@ impl Core {
             return Err(Cause::Illegal);
         }
         match insn {
-            Insn::Lwa { d, a, i } => self.load_linked(bus, d, self.address(a, i)),
-            Insn::Lwz { d, a, i } => {
-                self.load(bus, d, Width::Word, ExtendKind::Whole, self.address(a, i))
-            }
-            Insn::Lws { d, a, i } => {
-                self.load(bus, d, Width::Word, ExtendKind::Whole, self.address(a, i))
-            }
-            Insn::Lbz { d, a, i } => {
-                self.load(
-                    bus,
-                    d,
-                    Width::Byte,
-                    ExtendKind::ByteZero,
-                    self.address(a, i),
-                )
-            }
-            Insn::Lbs { d, a, i } => {
-                self.load(
-                    bus,
-                    d,
-                    Width::Byte,
-                    ExtendKind::ByteSigned,
-                    self.address(a, i),
-                )
-            }
-            Insn::Lhz { d, a, i } => {
-                self.load(
-                    bus,
-                    d,
-                    Width::Half,
-                    ExtendKind::HalfZero,
-                    self.address(a, i),
-                )
-            }
-            Insn::Lhs { d, a, i } => {
-                self.load(
-                    bus,
-                    d,
-                    Width::Half,
-                    ExtendKind::HalfSigned,
-                    self.address(a, i),
-                )
-            }
-            Insn::Swa { a, b, i } => self.store_conditional(
+            Insn::Load { width, signed, d, a, i } => self.load(
+                bus,
+                d,
+                width,
+                extension(width, signed),
+                self.address(a, i),
+            ),
+            Insn::LoadLinked { d, a, i } => self.load_linked(bus, d, self.address(a, i)),
+            Insn::Store { width, a, b, i } => self.store(
+                bus,
+                self.register(b),
+                width,
+                self.address(a, i),
+            ),
+            Insn::StoreConditional { a, b, i } => self.store_conditional(
                 bus,
                 self.register(b),
                 self.address(a, i),
             ),
-            Insn::Sw { a, b, i } => self.store(
-                bus,
-                self.register(b),
-                Width::Word,
-                self.address(a, i),
-            ),
-            Insn::Sb { a, b, i } => self.store(
-                bus,
-                self.register(b),
-                Width::Byte,
-                self.address(a, i),
-            ),
-            Insn::Sh { a, b, i } => self.store(
-                bus,
-                self.register(b),
-                Width::Half,
-                self.address(a, i),
-            ),
-            Insn::Mtspr { b, .. } => {
+            Insn::MoveToSpecial { b, .. } => {
                 bus.drop_line(self.number(), self.register(b));
                 self.go_on();
                 Ok(())

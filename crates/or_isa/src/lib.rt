@@ -13,101 +13,214 @@ mod encoding;
 mod fields;
 mod program;
 
+use or_words::{CompareCode, MacKind, ShiftKind, Width};
 pub use program::{Piece, Program};
+use std::mem::size_of;
 
-/// An instruction with its operands.
+/// An operation on two registers; `Choose` chooses by the flag F.
+#[derive(Clone, Copy, Debug, PartialEq, Eq)]
+pub enum ArithmeticKind {
+    Add,
+    AddWithCarry,
+    Subtract,
+    And,
+    Or,
+    Xor,
+    Choose,
+    Multiply,
+    Divide,
+    DivideUnsigned,
+    MultiplyUnsigned,
+}
+
+/// An operation on a register and a signed immediate.
+#[derive(Clone, Copy, Debug, PartialEq, Eq)]
+pub enum ImmediateKind {
+    Add,
+    AddWithCarry,
+    Xor,
+    Multiply,
+}
+
+/// What a barrier waits for. The board's steps are sequential, so each does nothing.
+#[derive(Clone, Copy, Debug, PartialEq, Eq)]
+pub enum SyncKind {
+    Memory,
+    Pipeline,
+    Context,
+}
+
+/// An instruction with its operands. Instructions that differ in one field alone are one variant, with that field.
 #[derive(Clone, Copy)]
 pub enum Insn {
-    J { n: i32 },
-    Jal { n: i32 },
-    Bnf { n: i32 },
-    Bf { n: i32 },
-    Adrp { d: u32, n: i32 },
-    Nop { k: u32 },
-    Sys { k: u32 },
-    Trap { k: u32 },
-    Movhi { d: u32, k: u32 },
-    Macrc { d: u32 },
-    Msync,
-    Psync,
-    Csync,
-    Rfe,
-    Jr { b: u32 },
-    Jalr { b: u32 },
-    Maci { a: u32, i: i32 },
-    Lwa { d: u32, a: u32, i: i32 },
-    Lwz { d: u32, a: u32, i: i32 },
-    Lws { d: u32, a: u32, i: i32 },
-    Lbz { d: u32, a: u32, i: i32 },
-    Lbs { d: u32, a: u32, i: i32 },
-    Lhz { d: u32, a: u32, i: i32 },
-    Lhs { d: u32, a: u32, i: i32 },
-    Addi { d: u32, a: u32, i: i32 },
-    Addic { d: u32, a: u32, i: i32 },
-    Xori { d: u32, a: u32, i: i32 },
-    Muli { d: u32, a: u32, i: i32 },
-    Andi { d: u32, a: u32, k: u32 },
-    Ori { d: u32, a: u32, k: u32 },
-    Mfspr { d: u32, a: u32, k: u32 },
-    Slli { d: u32, a: u32, l: u32 },
-    Srli { d: u32, a: u32, l: u32 },
-    Srai { d: u32, a: u32, l: u32 },
-    Rori { d: u32, a: u32, l: u32 },
-    Sfeqi { a: u32, i: i32 },
-    Sfnei { a: u32, i: i32 },
-    Sfgtui { a: u32, i: i32 },
-    Sfgeui { a: u32, i: i32 },
-    Sfltui { a: u32, i: i32 },
-    Sfleui { a: u32, i: i32 },
-    Sfgtsi { a: u32, i: i32 },
-    Sfgesi { a: u32, i: i32 },
-    Sfltsi { a: u32, i: i32 },
-    Sflesi { a: u32, i: i32 },
-    Mtspr { a: u32, b: u32, k: u32 },
-    Mac { a: u32, b: u32 },
-    Msb { a: u32, b: u32 },
-    Macu { a: u32, b: u32 },
-    Msbu { a: u32, b: u32 },
-    Swa { a: u32, b: u32, i: i32 },
-    Sw { a: u32, b: u32, i: i32 },
-    Sb { a: u32, b: u32, i: i32 },
-    Sh { a: u32, b: u32, i: i32 },
-    Add { d: u32, a: u32, b: u32 },
-    Addc { d: u32, a: u32, b: u32 },
-    Sub { d: u32, a: u32, b: u32 },
-    And { d: u32, a: u32, b: u32 },
-    Or { d: u32, a: u32, b: u32 },
-    Xor { d: u32, a: u32, b: u32 },
-    Cmov { d: u32, a: u32, b: u32 },
-    Mul { d: u32, a: u32, b: u32 },
-    Div { d: u32, a: u32, b: u32 },
-    Divu { d: u32, a: u32, b: u32 },
-    Mulu { d: u32, a: u32, b: u32 },
-    Sll { d: u32, a: u32, b: u32 },
-    Srl { d: u32, a: u32, b: u32 },
-    Sra { d: u32, a: u32, b: u32 },
-    Ror { d: u32, a: u32, b: u32 },
-    Muld { a: u32, b: u32 },
-    Muldu { a: u32, b: u32 },
-    Ff1 { d: u32, a: u32 },
-    Fl1 { d: u32, a: u32 },
-    Exths { d: u32, a: u32 },
-    Extbs { d: u32, a: u32 },
-    Exthz { d: u32, a: u32 },
-    Extbz { d: u32, a: u32 },
-    Extws { d: u32, a: u32 },
-    Extwz { d: u32, a: u32 },
-    Sfeq { a: u32, b: u32 },
-    Sfne { a: u32, b: u32 },
-    Sfgtu { a: u32, b: u32 },
-    Sfgeu { a: u32, b: u32 },
-    Sfltu { a: u32, b: u32 },
-    Sfleu { a: u32, b: u32 },
-    Sfgts { a: u32, b: u32 },
-    Sfges { a: u32, b: u32 },
-    Sflts { a: u32, b: u32 },
-    Sfles { a: u32, b: u32 },
+    /// `l.j`, and `l.jal`, which sets the link register.
+    Jump {
+        link: bool,
+        n: i32,
+    },
+    /// `l.bf` where it is taken on F, and `l.bnf`.
+    Branch {
+        on: bool,
+        n: i32,
+    },
+    /// `l.jr`, and `l.jalr`, which sets the link register.
+    JumpRegister {
+        link: bool,
+        b: u32,
+    },
+    /// `l.adrp`.
+    PageAddress {
+        d: u32,
+        n: i32,
+    },
+    Nop {
+        k: u32,
+    },
+    /// `l.sys`.
+    SystemCall {
+        k: u32,
+    },
+    Trap {
+        k: u32,
+    },
+    /// `l.movhi`.
+    MoveHigh {
+        d: u32,
+        k: u32,
+    },
+    /// `l.macrc`.
+    TakeAccumulator {
+        d: u32,
+    },
+    /// `l.msync`, `l.psync` and `l.csync`.
+    Sync {
+        kind: SyncKind,
+    },
+    /// `l.rfe`.
+    ReturnFromException,
+    /// `l.lwz`, `l.lws`, `l.lhz`, `l.lhs`, `l.lbz` and `l.lbs`.
+    Load {
+        width: Width,
+        signed: bool,
+        d: u32,
+        a: u32,
+        i: i32,
+    },
+    /// `l.lwa`.
+    LoadLinked {
+        d: u32,
+        a: u32,
+        i: i32,
+    },
+    /// `l.sw`, `l.sh` and `l.sb`.
+    Store {
+        width: Width,
+        a: u32,
+        b: u32,
+        i: i32,
+    },
+    /// `l.swa`.
+    StoreConditional {
+        a: u32,
+        b: u32,
+        i: i32,
+    },
+    /// `l.addi`, `l.addic`, `l.xori` and `l.muli`.
+    ArithmeticImmediate {
+        kind: ImmediateKind,
+        d: u32,
+        a: u32,
+        i: i32,
+    },
+    /// `l.andi`.
+    AndImmediate {
+        d: u32,
+        a: u32,
+        k: u32,
+    },
+    /// `l.ori`.
+    OrImmediate {
+        d: u32,
+        a: u32,
+        k: u32,
+    },
+    /// `l.mfspr`.
+    MoveFromSpecial {
+        d: u32,
+        a: u32,
+        k: u32,
+    },
+    /// `l.mtspr`.
+    MoveToSpecial {
+        a: u32,
+        b: u32,
+        k: u32,
+    },
+    /// `l.slli`, `l.srli`, `l.srai` and `l.rori`.
+    ShiftImmediate {
+        kind: ShiftKind,
+        d: u32,
+        a: u32,
+        l: u32,
+    },
+    /// `l.sll`, `l.srl`, `l.sra` and `l.ror`.
+    Shift {
+        kind: ShiftKind,
+        d: u32,
+        a: u32,
+        b: u32,
+    },
+    /// `l.sfeqi` to `l.sflesi`.
+    CompareImmediate {
+        code: CompareCode,
+        a: u32,
+        i: i32,
+    },
+    /// `l.sfeq` to `l.sfles`.
+    Compare {
+        code: CompareCode,
+        a: u32,
+        b: u32,
+    },
+    /// `l.maci`.
+    AccumulateImmediate {
+        a: u32,
+        i: i32,
+    },
+    /// `l.mac`, `l.msb`, `l.macu`, `l.msbu`, and `l.muld` and `l.muldu`, which set the accumulator.
+    Accumulate {
+        kind: MacKind,
+        a: u32,
+        b: u32,
+    },
+    /// `l.add` to `l.mulu`.
+    Arithmetic {
+        kind: ArithmeticKind,
+        d: u32,
+        a: u32,
+        b: u32,
+    },
+    /// `l.exths`, `l.extbs`, `l.exthz`, `l.extbz`, `l.extws` and `l.extwz`.
+    Extend {
+        width: Width,
+        signed: bool,
+        d: u32,
+        a: u32,
+    },
+    /// `l.ff1`.
+    FindFirst {
+        d: u32,
+        a: u32,
+    },
+    /// `l.fl1`.
+    FindLast {
+        d: u32,
+        a: u32,
+    },
 }
+
+// The decoded form is kept beside its word in the instruction cache, so it is small.
+const _: () = prove!(size_of::<Insn>() == 16);
 
 /// The instruction of a word; `None` where no instruction has this word.
 #[inline(always)]
@@ -130,24 +243,17 @@ pub fn encode(insn: &Insn) -> u32
     encoding::word(*insn)
 }
 
-/// Whether the instruction needs the bus. `spr` is the register that an `Mtspr` writes.
+/// Whether the instruction needs the bus. `spr` is the register that an `l.mtspr` writes.
 #[inline(always)]
 pub fn needs_bus(insn: &Insn, spr: u32) -> bool
     ensures { result ≡ needs_bus_of insn.now spr }
 {
     match insn {
-        Insn::Lwa { .. }
-        | Insn::Lwz { .. }
-        | Insn::Lws { .. }
-        | Insn::Lbz { .. }
-        | Insn::Lbs { .. }
-        | Insn::Lhz { .. }
-        | Insn::Lhs { .. }
-        | Insn::Swa { .. }
-        | Insn::Sw { .. }
-        | Insn::Sb { .. }
-        | Insn::Sh { .. } => true,
-        Insn::Mtspr { .. } => spr == 6146 || spr == 6147,
+        Insn::Load { .. }
+        | Insn::LoadLinked { .. }
+        | Insn::Store { .. }
+        | Insn::StoreConditional { .. } => true,
+        Insn::MoveToSpecial { .. } => spr == 6146 || spr == 6147,
         _ => false,
     }
 }
@@ -182,15 +288,62 @@ mod tests {
 
     #[test]
     fn known_words(rt: HostRuntime) {
-        assert!(rt; matches!(decode(0x1860_9000), Some(Insn::Movhi { d: 3, k: 0x9000 })));
-        assert!(rt; matches!(decode(0x9c80_0048), Some(Insn::Addi { d: 4, a: 0, i: 72 })));
-        assert!(rt; matches!(decode(0xd803_2000), Some(Insn::Sb { a: 3, b: 4, i: 0 })));
+        assert!(rt;
+            matches!(
+                decode(0x1860_9000),
+                Some(Insn::MoveHigh { d: 3, k: 0x9000 })
+            )
+        );
+        assert!(rt;
+            matches!(
+                decode(0x9c80_0048),
+                Some(Insn::ArithmeticImmediate {
+                    kind: ImmediateKind::Add,
+                    d: 4,
+                    a: 0,
+                    i: 72
+                })
+            )
+        );
+        assert!(rt;
+            matches!(
+                decode(0xd803_2000),
+                Some(Insn::Store {
+                    width: Width::Byte,
+                    a: 3,
+                    b: 4,
+                    i: 0
+                })
+            )
+        );
         assert!(rt; matches!(decode(0x1500_0001), Some(Insn::Nop { k: 1 })));
-        assert!(rt; matches!(decode(0x6c83_0000), Some(Insn::Lwa { d: 4, a: 3, i: 0 })));
-        assert!(rt; matches!(decode(0xcc03_2000), Some(Insn::Swa { a: 3, b: 4, i: 0 })));
-        assert_eq!(rt; encode(&Insn::Movhi { d: 3, k: 0x9000 }), 0x1860_9000);
-        assert_eq!(rt; encode(&Insn::Addi { d: 4, a: 0, i: -1 }), 0x9c80_ffff);
-        assert_eq!(rt; encode(&Insn::Sw { a: 1, b: 2, i: -4 }), 0xd7e1_17fc);
+        assert!(rt;
+            matches!(
+                decode(0x6c83_0000),
+                Some(Insn::LoadLinked { d: 4, a: 3, i: 0 })
+            )
+        );
+        assert!(rt;
+            matches!(
+                decode(0xcc03_2000),
+                Some(Insn::StoreConditional { a: 3, b: 4, i: 0 })
+            )
+        );
+        assert_eq!(rt; encode(&Insn::MoveHigh { d: 3, k: 0x9000 }), 0x1860_9000);
+        let add = Insn::ArithmeticImmediate {
+            kind: ImmediateKind::Add,
+            d: 4,
+            a: 0,
+            i: -1,
+        };
+        assert_eq!(rt; encode(&add), 0x9c80_ffff);
+        let store = Insn::Store {
+            width: Width::Word,
+            a: 1,
+            b: 2,
+            i: -4,
+        };
+        assert_eq!(rt; encode(&store), 0xd7e1_17fc);
     }
 
     #[test]

@@ -7,7 +7,7 @@ use Rattle.or_words.specs.declared.ExtendKind.{ExtendKind}
 use Rattle.or_words.specs.declared.ExtendKind.TheVariants.{Whole}
 use Rattle.or_words.specs.Kind.{extended}
 use Rattle.or_isa.specs.declared.Insn.{Insn}
-use Rattle.or_isa.specs.declared.Insn.TheVariants.{Lwa, Lwz, Lws, Lbz, Lbs, Lhz, Lhs, Swa, Sw, Sb, Sh, Mtspr}
+use Rattle.or_isa.specs.declared.Insn.TheVariants as insn
 use Rattle.or_parts.specs.declared.Right.TheVariants.{Load, Store}
 use Rattle.or_model.specs.declared.Route.{Route}
 use Rattle.or_model.specs.declared.Route.TheVariants.{Refused, At}
@@ -80,16 +80,9 @@ stored_conditional-counts core world v ea = conditional_by-counts core world v e
 -- whatever an instruction makes of a core on the bus
 pub executed_on_bus-counts : (insn : Insn) (core : Core) (world : World) → KeepsCounts core (executed_on_bus insn core world)
 unfolding executed_on_bus
-executed_on_bus-counts (Lwa d a i) core world = loaded_linked-counts core world d _
-executed_on_bus-counts (Lwz d a i) core world = loaded-counts core world d _ _ _
-executed_on_bus-counts (Lws d a i) core world = loaded-counts core world d _ _ _
-executed_on_bus-counts (Lbz d a i) core world = loaded-counts core world d _ _ _
-executed_on_bus-counts (Lbs d a i) core world = loaded-counts core world d _ _ _
-executed_on_bus-counts (Lhz d a i) core world = loaded-counts core world d _ _ _
-executed_on_bus-counts (Lhs d a i) core world = loaded-counts core world d _ _ _
-executed_on_bus-counts (Swa a b i) core world = stored_conditional-counts core world _ _
-executed_on_bus-counts (Sw a b i) core world = stored_value-counts core world _ _ _
-executed_on_bus-counts (Sb a b i) core world = stored_value-counts core world _ _ _
-executed_on_bus-counts (Sh a b i) core world = stored_value-counts core world _ _ _
-executed_on_bus-counts (Mtspr a b k) core world = next_instruction-counts core
+executed_on_bus-counts (insn.LoadLinked d a i) core world = loaded_linked-counts core world d _
+executed_on_bus-counts (insn.Load width extended d a i) core world = loaded-counts core world d _ _ _
+executed_on_bus-counts (insn.StoreConditional a b i) core world = stored_conditional-counts core world _ _
+executed_on_bus-counts (insn.Store width a b i) core world = stored_value-counts core world _ _ _
+executed_on_bus-counts (insn.MoveToSpecial a b k) core world = next_instruction-counts core
 executed_on_bus-counts _ core world = tt

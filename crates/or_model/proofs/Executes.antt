@@ -6,7 +6,9 @@ use Rattle.or_words.specs.declared.ExtendKind.{ExtendKind}
 use Rattle.or_words.specs.declared.CompareCode.{CompareCode}
 use Rattle.or_words.specs.declared.MacKind.{MacKind}
 use Rattle.or_isa.specs.declared.Insn.{Insn}
-use Rattle.or_isa.specs.declared.Insn.TheVariants.{J, Jal, Bnf, Bf, Adrp, Nop, Sys, Trap, Movhi, Macrc, Msync, Psync, Csync, Rfe, Jr, Jalr, Maci, Lwa, Lwz, Lws, Lbz, Lbs, Lhz, Lhs, Addi, Addic, Xori, Muli, Andi, Ori, Mfspr, Slli, Srli, Srai, Rori, Sfeqi, Sfnei, Sfgtui, Sfgeui, Sfltui, Sfleui, Sfgtsi, Sfgesi, Sfltsi, Sflesi, Mtspr, Mac, Msb, Macu, Msbu, Swa, Sw, Sb, Sh, Add, Addc, Sub, And, Or, Xor, Cmov, Mul, Div, Divu, Mulu, Sll, Srl, Sra, Ror, Muld, Muldu, Ff1, Fl1, Exths, Extbs, Exthz, Extbz, Extws, Extwz, Sfeq, Sfne, Sfgtu, Sfgeu, Sfltu, Sfleu, Sfgts, Sfges, Sflts, Sfles}
+use Rattle.or_isa.specs.declared.Insn.TheVariants.{Jump, Branch, JumpRegister, PageAddress, Nop, SystemCall, Trap, MoveHigh, TakeAccumulator, Sync, ReturnFromException, Load, LoadLinked, Store, StoreConditional, ArithmeticImmediate, AndImmediate, OrImmediate, MoveFromSpecial, MoveToSpecial, ShiftImmediate, Shift, CompareImmediate, Compare, AccumulateImmediate, Accumulate, Arithmetic, Extend, FindFirst, FindLast}
+use Rattle.or_isa.specs.declared.ArithmeticKind.{ArithmeticKind}
+use Rattle.or_isa.specs.declared.ArithmeticKind.TheVariants as arithmetic
 use Rattle.or_parts.specs.declared.Cause.{Cause}
 use Rattle.or_parts.specs.declared.Cause.TheVariants.{Range}
 use Rattle.or_parts.specs.declared.SprRoute.{SprRoute}
@@ -17,7 +19,7 @@ use Rattle.or_model.specs.declared.Stop.{Stop}
 use Rattle.or_model.specs.declared.Stop.TheVariants.{Exit}
 use Rattle.or_model.specs.Core.{Core, register, set_register, next_instruction, branched, exception_return, exception_entry, own_registers, with_own_registers}
 use Rattle.or_model.specs.SpecialAccess.{special_written, special_written_by}
-use Rattle.or_model.specs.Execute.{put, with_carry, with_overflow, unless_overflow, put_with_flags, put_with_overflow, put_with_carry, put_sum, put_difference, put_product, put_quotient, put_unsigned_quotient, put_unsigned_product, put_shifted, put_extended, put_lowest_one, put_highest_one, put_chosen, put_flag, put_comparison, put_accumulator, accumulator_read, branched_where, called, after_nop, executed}
+use Rattle.or_model.specs.Execute.{put, with_carry, with_overflow, unless_overflow, put_with_flags, put_with_overflow, put_with_carry, put_sum, put_difference, put_product, put_quotient, put_unsigned_quotient, put_unsigned_product, put_shifted, put_extended, put_lowest_one, put_highest_one, put_chosen, put_flag, put_comparison, put_accumulator, accumulator_read, branched_where, called, jumped, branched_on, after_nop, on_registers, put_arithmetic, executed}
 use Rattle.or_model.specs.Counts.{SameSettings, SameCounts}
 
 pub SameSettings-trans : {old middle new : Core} → SameSettings old middle → SameSettings middle new → SameSettings old new
@@ -150,6 +152,14 @@ called-counts : (core : Core) (to : ℕ) → SameCounts core (called core to)
 unfolding called
 called-counts core to = SameCounts-trans (set_register-counts core 9 _) (branched-counts _ to)
 
+jumped-counts : (core : Core) (link : Bool) (to : ℕ) → SameCounts core (jumped core link to)
+unfolding jumped
+jumped-counts core link to = elim link as (λ b. SameCounts core (cond b (called core to) (branched core to))) [ true ↦ called-counts core to | false ↦ branched-counts core to ]
+
+branched_on-counts : (core : Core) (on : Bool) (n : ℤ) → SameCounts core (branched_on core on n)
+unfolding branched_on
+branched_on-counts core on n = branched_where-counts core _ n
+
 with_stop-counts : (core : Core) (stop : Option Stop) → SameCounts core (record core { stop = stop })
 with_stop-counts core stop = record { steps = refl; settings = record { number = refl; cores = refl; budget = refl; latched = refl } }
 
@@ -206,95 +216,50 @@ special_written-counts : (core : Core) (n v : ℕ) → SameCounts core (special_
 unfolding special_written
 special_written-counts core n v = special_written_by-counts core n v (spr_route n)
 
+put_arithmetic-counts : (core : Core) (kind : ArithmeticKind) (d a b : ℕ) → IfOk (put_arithmetic core kind d a b) (SameCounts core)
+unfolding put_arithmetic
+put_arithmetic-counts core arithmetic.Add d a b = put_sum-counts core _ _ _ _
+put_arithmetic-counts core arithmetic.AddWithCarry d a b = put_sum-counts core _ _ _ _
+put_arithmetic-counts core arithmetic.Subtract d a b = put_difference-counts core _ _ _
+put_arithmetic-counts core arithmetic.And d a b = put-counts core _ _
+put_arithmetic-counts core arithmetic.Or d a b = put-counts core _ _
+put_arithmetic-counts core arithmetic.Xor d a b = put-counts core _ _
+put_arithmetic-counts core arithmetic.Choose d a b = put_chosen-counts core _ _ _
+put_arithmetic-counts core arithmetic.Multiply d a b = put_product-counts core _ _ _
+put_arithmetic-counts core arithmetic.Divide d a b = put_quotient-counts core _ _ _
+put_arithmetic-counts core arithmetic.DivideUnsigned d a b = put_unsigned_quotient-counts core _ _ _
+put_arithmetic-counts core arithmetic.MultiplyUnsigned d a b = put_unsigned_product-counts core _ _ _
+
 -- whatever an instruction makes of a core
 pub executed-counts : (insn : Insn) (core : Core) → IfOk (executed insn core) (SameCounts core)
 unfolding executed
-executed-counts (J n) core = branched-counts core _
-executed-counts (Jal n) core = called-counts core _
-executed-counts (Bnf n) core = branched_where-counts core _ _
-executed-counts (Bf n) core = branched_where-counts core _ _
-executed-counts (Adrp d n) core = put-counts core _ _
+executed-counts (Jump link n) core = jumped-counts core link _
+executed-counts (Branch on n) core = branched_on-counts core on n
+executed-counts (JumpRegister link b) core = jumped-counts core link _
+executed-counts (PageAddress d n) core = put-counts core _ _
 executed-counts (Nop k) core = after_nop-counts core _
-executed-counts (Sys k) core = tt
+executed-counts (SystemCall k) core = tt
 executed-counts (Trap k) core = tt
-executed-counts (Movhi d k) core = put-counts core _ _
-executed-counts (Macrc d) core = accumulator_read-counts core _
-executed-counts Msync core = next_instruction-counts core
-executed-counts Psync core = next_instruction-counts core
-executed-counts Csync core = next_instruction-counts core
-executed-counts Rfe core = exception_return-counts core
-executed-counts (Jr b) core = branched-counts core _
-executed-counts (Jalr b) core = called-counts core _
-executed-counts (Maci a i) core = put_accumulator-counts core _ _ _
-executed-counts (Addi d a i) core = put_sum-counts core _ _ _ _
-executed-counts (Addic d a i) core = put_sum-counts core _ _ _ _
-executed-counts (Xori d a i) core = put-counts core _ _
-executed-counts (Muli d a i) core = put_product-counts core _ _ _
-executed-counts (Andi d a k) core = put-counts core _ _
-executed-counts (Ori d a k) core = put-counts core _ _
-executed-counts (Mfspr d a k) core = put-counts core _ _
-executed-counts (Slli d a l) core = put_shifted-counts core _ _ _ _
-executed-counts (Srli d a l) core = put_shifted-counts core _ _ _ _
-executed-counts (Srai d a l) core = put_shifted-counts core _ _ _ _
-executed-counts (Rori d a l) core = put_shifted-counts core _ _ _ _
-executed-counts (Sfeqi a i) core = put_comparison-counts core _ _ _
-executed-counts (Sfnei a i) core = put_comparison-counts core _ _ _
-executed-counts (Sfgtui a i) core = put_comparison-counts core _ _ _
-executed-counts (Sfgeui a i) core = put_comparison-counts core _ _ _
-executed-counts (Sfltui a i) core = put_comparison-counts core _ _ _
-executed-counts (Sfleui a i) core = put_comparison-counts core _ _ _
-executed-counts (Sfgtsi a i) core = put_comparison-counts core _ _ _
-executed-counts (Sfgesi a i) core = put_comparison-counts core _ _ _
-executed-counts (Sfltsi a i) core = put_comparison-counts core _ _ _
-executed-counts (Sflesi a i) core = put_comparison-counts core _ _ _
-executed-counts (Mtspr a b k) core = SameCounts-trans (special_written-counts core _ _) (next_instruction-counts _)
-executed-counts (Mac a b) core = put_accumulator-counts core _ _ _
-executed-counts (Msb a b) core = put_accumulator-counts core _ _ _
-executed-counts (Macu a b) core = put_accumulator-counts core _ _ _
-executed-counts (Msbu a b) core = put_accumulator-counts core _ _ _
-executed-counts (Add d a b) core = put_sum-counts core _ _ _ _
-executed-counts (Addc d a b) core = put_sum-counts core _ _ _ _
-executed-counts (Sub d a b) core = put_difference-counts core _ _ _
-executed-counts (And d a b) core = put-counts core _ _
-executed-counts (Or d a b) core = put-counts core _ _
-executed-counts (Xor d a b) core = put-counts core _ _
-executed-counts (Cmov d a b) core = put_chosen-counts core _ _ _
-executed-counts (Mul d a b) core = put_product-counts core _ _ _
-executed-counts (Div d a b) core = put_quotient-counts core _ _ _
-executed-counts (Divu d a b) core = put_unsigned_quotient-counts core _ _ _
-executed-counts (Mulu d a b) core = put_unsigned_product-counts core _ _ _
-executed-counts (Sll d a b) core = put_shifted-counts core _ _ _ _
-executed-counts (Srl d a b) core = put_shifted-counts core _ _ _ _
-executed-counts (Sra d a b) core = put_shifted-counts core _ _ _ _
-executed-counts (Ror d a b) core = put_shifted-counts core _ _ _ _
-executed-counts (Muld a b) core = put_accumulator-counts core _ _ _
-executed-counts (Muldu a b) core = put_accumulator-counts core _ _ _
-executed-counts (Ff1 d a) core = put_lowest_one-counts core _ _
-executed-counts (Fl1 d a) core = put_highest_one-counts core _ _
-executed-counts (Exths d a) core = put_extended-counts core _ _ _
-executed-counts (Extbs d a) core = put_extended-counts core _ _ _
-executed-counts (Exthz d a) core = put_extended-counts core _ _ _
-executed-counts (Extbz d a) core = put_extended-counts core _ _ _
-executed-counts (Extws d a) core = put-counts core _ _
-executed-counts (Extwz d a) core = put-counts core _ _
-executed-counts (Sfeq a b) core = put_comparison-counts core _ _ _
-executed-counts (Sfne a b) core = put_comparison-counts core _ _ _
-executed-counts (Sfgtu a b) core = put_comparison-counts core _ _ _
-executed-counts (Sfgeu a b) core = put_comparison-counts core _ _ _
-executed-counts (Sfltu a b) core = put_comparison-counts core _ _ _
-executed-counts (Sfleu a b) core = put_comparison-counts core _ _ _
-executed-counts (Sfgts a b) core = put_comparison-counts core _ _ _
-executed-counts (Sfges a b) core = put_comparison-counts core _ _ _
-executed-counts (Sflts a b) core = put_comparison-counts core _ _ _
-executed-counts (Sfles a b) core = put_comparison-counts core _ _ _
-executed-counts (Lwa d a i) core = tt
-executed-counts (Lwz d a i) core = tt
-executed-counts (Lws d a i) core = tt
-executed-counts (Lbz d a i) core = tt
-executed-counts (Lbs d a i) core = tt
-executed-counts (Lhz d a i) core = tt
-executed-counts (Lhs d a i) core = tt
-executed-counts (Swa a b i) core = tt
-executed-counts (Sw a b i) core = tt
-executed-counts (Sb a b i) core = tt
-executed-counts (Sh a b i) core = tt
+executed-counts (MoveHigh d k) core = put-counts core _ _
+executed-counts (TakeAccumulator d) core = accumulator_read-counts core _
+executed-counts (Sync kind) core = next_instruction-counts core
+executed-counts ReturnFromException core = exception_return-counts core
+executed-counts (ArithmeticImmediate kind d a i) core = put_arithmetic-counts core (on_registers kind) _ _ _
+executed-counts (AndImmediate d a k) core = put-counts core _ _
+executed-counts (OrImmediate d a k) core = put-counts core _ _
+executed-counts (MoveFromSpecial d a k) core = put-counts core _ _
+executed-counts (MoveToSpecial a b k) core = SameCounts-trans (special_written-counts core _ _) (next_instruction-counts _)
+executed-counts (ShiftImmediate kind d a l) core = put_shifted-counts core _ _ _ _
+executed-counts (Shift kind d a b) core = put_shifted-counts core _ _ _ _
+executed-counts (CompareImmediate code a i) core = put_comparison-counts core _ _ _
+executed-counts (Compare code a b) core = put_comparison-counts core _ _ _
+executed-counts (AccumulateImmediate a i) core = put_accumulator-counts core _ _ _
+executed-counts (Accumulate kind a b) core = put_accumulator-counts core _ _ _
+executed-counts (Arithmetic kind d a b) core = put_arithmetic-counts core kind _ _ _
+executed-counts (Extend width sign d a) core = put_extended-counts core _ _ _
+executed-counts (FindFirst d a) core = put_lowest_one-counts core _ _
+executed-counts (FindLast d a) core = put_highest_one-counts core _ _
+executed-counts (Load width sign d a i) core = tt
+executed-counts (LoadLinked d a i) core = tt
+executed-counts (Store width a b i) core = tt
+executed-counts (StoreConditional a b i) core = tt

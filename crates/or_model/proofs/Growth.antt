@@ -1,7 +1,7 @@
 -- A step, and so a turn, makes at most one write to RAM, and sends at most one byte to the console.
 use Rattle.std.proofs.Common.{ℕ, ◌+◌, ◌≤◌, ◌-◌, ◌%◌, Bool, true, false, cond, List, [], ◌∷◌, ◌++◌, length, Option, Some, None, Ok, Err, arith, length-append}
 use Rattle.or_isa.specs.declared.Insn.{Insn}
-use Rattle.or_isa.specs.declared.Insn.TheVariants.{Mtspr, Lwa, Lwz, Lws, Lbz, Lbs, Lhz, Lhs, Swa, Sw, Sb, Sh}
+use Rattle.or_isa.specs.declared.Insn.TheVariants as insn
 use Rattle.or_isa.specs.Bus.{needs_bus_of}
 use Rattle.or_isa.specs.Decode.{decode_of}
 use Rattle.or_words.specs.declared.Width.{Width}
@@ -16,6 +16,7 @@ use Rattle.or_parts.specs.Memory.{value_at}
 use Rattle.or_parts.specs.Lines.{line_bytes}
 use Rattle.or_parts.specs.declared.Cause.TheVariants.{Illegal}
 use Rattle.or_words.specs.declared.ExtendKind.TheVariants.{HalfSigned, ByteSigned, HalfZero, ByteZero}
+use Rattle.or_model.specs.Execute.{extension}
 use Rattle.or_model.specs.Core.{register}
 use Rattle.std.specs.Prelude.{◌==◌, ◌&&◌, not}
 use Rattle.or_model.specs.declared.Route.{Route}
@@ -194,18 +195,11 @@ dropped_grows world c pa = record { writes = omega arith; console = omega arith 
 
 executed_grows : (insn : Insn) (core : Core) (world : World) → OutcomeGrows world (executed_on_bus insn core world)
 unfolding executed_on_bus
-executed_grows (Lwa d a i) core world = link_grows core world d (plus (register core a) (immediate i))
-executed_grows (Lwz d a i) core world = loaded_grows core world d Word Whole (plus (register core a) (immediate i))
-executed_grows (Lws d a i) core world = loaded_grows core world d Word Whole (plus (register core a) (immediate i))
-executed_grows (Lbz d a i) core world = loaded_grows core world d Byte ByteZero (plus (register core a) (immediate i))
-executed_grows (Lbs d a i) core world = loaded_grows core world d Byte ByteSigned (plus (register core a) (immediate i))
-executed_grows (Lhz d a i) core world = loaded_grows core world d Half HalfZero (plus (register core a) (immediate i))
-executed_grows (Lhs d a i) core world = loaded_grows core world d Half HalfSigned (plus (register core a) (immediate i))
-executed_grows (Swa a b i) core world = swap_grows core world (register core b) (plus (register core a) (immediate i))
-executed_grows (Sw a b i) core world = stored_grows core world (register core b) Word (plus (register core a) (immediate i))
-executed_grows (Sb a b i) core world = stored_grows core world (register core b) Byte (plus (register core a) (immediate i))
-executed_grows (Sh a b i) core world = stored_grows core world (register core b) Half (plus (register core a) (immediate i))
-executed_grows (Mtspr a b k) core world = dropped_grows world core.number (register core b)
+executed_grows (insn.LoadLinked d a i) core world = link_grows core world d (plus (register core a) (immediate i))
+executed_grows (insn.Load width extended d a i) core world = loaded_grows core world d width (extension width extended) (plus (register core a) (immediate i))
+executed_grows (insn.StoreConditional a b i) core world = swap_grows core world (register core b) (plus (register core a) (immediate i))
+executed_grows (insn.Store width a b i) core world = stored_grows core world (register core b) width (plus (register core a) (immediate i))
+executed_grows (insn.MoveToSpecial a b k) core world = dropped_grows world core.number (register core b)
 executed_grows _ core world = tt
 
 outcome_grows : (misplaced : Bool) (world : World) (cause : Cause) (outcome : Outcome) → OutcomeGrows world outcome → OutcomeGrows world (cond misplaced (Err cause) outcome)

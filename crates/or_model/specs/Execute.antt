@@ -1,17 +1,22 @@
 -- What an instruction does that asks nothing of the bus: the core behind it, or the exception that it meets
 -- (OpenRISC 1000 Architecture Manual, chapter 5, ORBIS32).
-use Rattle.std.specs.Prelude.{ℕ, ◌+◌, ◌-◌, ◌*◌, ◌/◌, ◌%◌, ◌^◌, Bool, false, not, ◌==◌, ◌&&◌, if◌then◌else◌, Some, Result, Ok, Err, bit_and, bit_or, bit_xor, ℤ, pos, ◌-ℤ◌, ◌*ℤ◌}
+use Rattle.std.specs.Prelude.{ℕ, ◌+◌, ◌-◌, ◌*◌, ◌/◌, ◌%◌, ◌^◌, Bool, true, false, not, ◌==◌, ◌&&◌, if◌then◌else◌, Some, Result, Ok, Err, bit_and, bit_or, bit_xor, ℤ, pos, ◌-ℤ◌, ◌*ℤ◌}
 use Rattle.std.specs.Int.{cast_unsigned, w32}
 use Rattle.or_isa.specs.declared.Insn.{Insn}
-use Rattle.or_isa.specs.declared.Insn.TheVariants.{J, Jal, Bnf, Bf, Adrp, Nop, Sys, Trap, Movhi, Macrc, Msync, Psync, Csync, Rfe, Jr, Jalr, Maci, Lwa, Lwz, Lws, Lbz, Lbs, Lhz, Lhs, Addi, Addic, Xori, Muli, Andi, Ori, Mfspr, Slli, Srli, Srai, Rori, Sfeqi, Sfnei, Sfgtui, Sfgeui, Sfltui, Sfleui, Sfgtsi, Sfgesi, Sfltsi, Sflesi, Mtspr, Mac, Msb, Macu, Msbu, Swa, Sw, Sb, Sh, Add, Addc, Sub, And, Or, Xor, Cmov, Mul, Div, Divu, Mulu, Sll, Srl, Sra, Ror, Muld, Muldu, Ff1, Fl1, Exths, Extbs, Exthz, Extbz, Extws, Extwz, Sfeq, Sfne, Sfgtu, Sfgeu, Sfltu, Sfleu, Sfgts, Sfges, Sflts, Sfles}
+use Rattle.or_isa.specs.declared.Insn.TheVariants.{Jump, Branch, JumpRegister, PageAddress, Nop, SystemCall, Trap, MoveHigh, TakeAccumulator, Sync, ReturnFromException, Load, LoadLinked, Store, StoreConditional, ArithmeticImmediate, AndImmediate, OrImmediate, MoveFromSpecial, MoveToSpecial, ShiftImmediate, Shift, CompareImmediate, Compare, AccumulateImmediate, Accumulate, Arithmetic, Extend, FindFirst, FindLast}
+use Rattle.or_isa.specs.declared.ArithmeticKind.{ArithmeticKind}
+use Rattle.or_isa.specs.declared.ArithmeticKind.TheVariants as arithmetic
+use Rattle.or_isa.specs.declared.ImmediateKind.{ImmediateKind}
+use Rattle.or_isa.specs.declared.ImmediateKind.TheVariants as immediate_kind
+use Rattle.or_words.specs.declared.Width.{Width}
+use Rattle.or_words.specs.declared.Width.TheVariants.{Byte, Half, Word}
 use Rattle.or_words.specs.declared.ShiftKind.{ShiftKind}
-use Rattle.or_words.specs.declared.ShiftKind.TheVariants.{Lower, Upper, Arithmetic, Rotate}
 use Rattle.or_words.specs.declared.ExtendKind.{ExtendKind}
-use Rattle.or_words.specs.declared.ExtendKind.TheVariants.{HalfSigned, ByteSigned, HalfZero, ByteZero}
+use Rattle.or_words.specs.declared.ExtendKind.TheVariants.{HalfSigned, ByteSigned, HalfZero, ByteZero, Whole}
 use Rattle.or_words.specs.declared.CompareCode.{CompareCode}
-use Rattle.or_words.specs.declared.CompareCode.TheVariants.{Eq, Ne, Gtu, Geu, Ltu, Leu, Gts, Ges, Lts, Les}
+use Rattle.or_words.specs.declared.CompareCode.TheVariants.{Ltu}
 use Rattle.or_words.specs.declared.MacKind.{MacKind}
-use Rattle.or_words.specs.declared.MacKind.TheVariants.{Plus, Minus, PlusUnsigned, MinusUnsigned, Set, SetUnsigned}
+use Rattle.or_words.specs.declared.MacKind.TheVariants.{Plus}
 use Rattle.or_words.specs.Word.{signed, word_of, remainder, exceeds_unsigned, exceeds_signed, unsigned_sum, signed_sum, signed_quotient, quotient_overflows, unsigned_quotient, lowest_one, highest_one}
 use Rattle.or_words.specs.Kind.{shifted, extended, compares, accumulated}
 use Rattle.or_parts.specs.declared.Cause.{Cause}
@@ -118,6 +123,14 @@ branched_where core taken n = branched core (if taken then destination core n el
 unfoldable pub called : Core → ℕ → Core
 called core to = branched (set_register core 9 (plus core.pc 8)) to
 
+-- a jump, which is a call where it sets the link register
+unfoldable pub jumped : Core → Bool → ℕ → Core
+jumped core link to = if link then called core to else branched core to
+
+-- l.bf branches where the flag F is set, and l.bnf where it is not
+unfoldable pub branched_on : Core → Bool → ℤ → Core
+branched_on core on n = branched_where core (if on then flag core else not (flag core)) n
+
 -- a page's address, by pages from that of pc
 unfoldable pub page_address : Core → ℤ → ℕ
 page_address core n = plus (core.pc - core.pc % 8192) (word_of (n *ℤ pos 8192))
@@ -126,94 +139,64 @@ page_address core n = plus (core.pc - core.pc % 8192) (word_of (n *ℤ pos 8192)
 unfoldable pub after_nop : Core → ℕ → Core
 after_nop core k = if k == 1 then record core { stop = Some (Exit (register core 3)) } else core
 
+-- how the value of a load or of an extension fills a word
+abbrev pub extension : Width → Bool → ExtendKind
+extension Byte true = ByteSigned
+extension Byte false = ByteZero
+extension Half true = HalfSigned
+extension Half false = HalfZero
+extension Word _ = Whole
+
+-- an operation on two words, and its flags
+unfoldable pub put_arithmetic : Core → ArithmeticKind → ℕ → ℕ → ℕ → Result Core Cause
+put_arithmetic core arithmetic.Add d a b = put_sum core d a b false
+put_arithmetic core arithmetic.AddWithCarry d a b = put_sum core d a b (carry core)
+put_arithmetic core arithmetic.Subtract d a b = put_difference core d a b
+put_arithmetic core arithmetic.And d a b = Ok (put core d (bit_and a b))
+put_arithmetic core arithmetic.Or d a b = Ok (put core d (bit_or a b))
+put_arithmetic core arithmetic.Xor d a b = Ok (put core d (bit_xor a b))
+put_arithmetic core arithmetic.Choose d a b = Ok (put_chosen core d a b)
+put_arithmetic core arithmetic.Multiply d a b = put_product core d a b
+put_arithmetic core arithmetic.Divide d a b = put_quotient core d a b
+put_arithmetic core arithmetic.DivideUnsigned d a b = Ok (put_unsigned_quotient core d a b)
+put_arithmetic core arithmetic.MultiplyUnsigned d a b = Ok (put_unsigned_product core d a b)
+
+-- the operation on registers that does the same
+abbrev pub on_registers : ImmediateKind → ArithmeticKind
+on_registers immediate_kind.Add = arithmetic.Add
+on_registers immediate_kind.AddWithCarry = arithmetic.AddWithCarry
+on_registers immediate_kind.Xor = arithmetic.Xor
+on_registers immediate_kind.Multiply = arithmetic.Multiply
+
 -- one instruction; those that ask the bus have no place here
 unfoldable pub executed : Insn → Core → Result Core Cause
-executed (J n) core = Ok (branched core (destination core n))
-executed (Jal n) core = Ok (called core (destination core n))
-executed (Bnf n) core = Ok (branched_where core (not (flag core)) n)
-executed (Bf n) core = Ok (branched_where core (flag core) n)
-executed (Adrp d n) core = Ok (put core d (page_address core n))
+executed (Jump link n) core = Ok (jumped core link (destination core n))
+executed (Branch on n) core = Ok (branched_on core on n)
+executed (JumpRegister link b) core = Ok (jumped core link (register core b))
+executed (PageAddress d n) core = Ok (put core d (page_address core n))
 executed (Nop k) core = Ok (next_instruction (after_nop core k))
-executed (Sys k) core = Err Syscall
+executed (SystemCall k) core = Err Syscall
 executed (Trap k) core = Err TrapCause
-executed (Movhi d k) core = Ok (put core d (k * 65536))
-executed (Macrc d) core = Ok (accumulator_read core d)
-executed Msync core = Ok (next_instruction core)
-executed Psync core = Ok (next_instruction core)
-executed Csync core = Ok (next_instruction core)
-executed Rfe core = Ok (exception_return core)
-executed (Jr b) core = Ok (branched core (register core b))
-executed (Jalr b) core = Ok (called core (register core b))
-executed (Maci a i) core = Ok (put_accumulator core Plus (register core a) (immediate i))
-executed (Addi d a i) core = put_sum core d (register core a) (immediate i) false
-executed (Addic d a i) core = put_sum core d (register core a) (immediate i) (carry core)
-executed (Xori d a i) core = Ok (put core d (bit_xor (register core a) (immediate i)))
-executed (Muli d a i) core = put_product core d (register core a) (immediate i)
-executed (Andi d a k) core = Ok (put core d (bit_and (register core a) k))
-executed (Ori d a k) core = Ok (put core d (bit_or (register core a) k))
-executed (Mfspr d a k) core = Ok (put core d (special core (bit_or (register core a) k)))
-executed (Slli d a l) core = Ok (put_shifted core d Lower (register core a) l)
-executed (Srli d a l) core = Ok (put_shifted core d Upper (register core a) l)
-executed (Srai d a l) core = Ok (put_shifted core d Arithmetic (register core a) l)
-executed (Rori d a l) core = Ok (put_shifted core d Rotate (register core a) l)
-executed (Sfeqi a i) core = Ok (put_comparison core Eq (register core a) (immediate i))
-executed (Sfnei a i) core = Ok (put_comparison core Ne (register core a) (immediate i))
-executed (Sfgtui a i) core = Ok (put_comparison core Gtu (register core a) (immediate i))
-executed (Sfgeui a i) core = Ok (put_comparison core Geu (register core a) (immediate i))
-executed (Sfltui a i) core = Ok (put_comparison core Ltu (register core a) (immediate i))
-executed (Sfleui a i) core = Ok (put_comparison core Leu (register core a) (immediate i))
-executed (Sfgtsi a i) core = Ok (put_comparison core Gts (register core a) (immediate i))
-executed (Sfgesi a i) core = Ok (put_comparison core Ges (register core a) (immediate i))
-executed (Sfltsi a i) core = Ok (put_comparison core Lts (register core a) (immediate i))
-executed (Sflesi a i) core = Ok (put_comparison core Les (register core a) (immediate i))
-executed (Mtspr a b k) core = Ok (next_instruction (special_written core (bit_or (register core a) k) (register core b)))
-executed (Mac a b) core = Ok (put_accumulator core Plus (register core a) (register core b))
-executed (Msb a b) core = Ok (put_accumulator core Minus (register core a) (register core b))
-executed (Macu a b) core = Ok (put_accumulator core PlusUnsigned (register core a) (register core b))
-executed (Msbu a b) core = Ok (put_accumulator core MinusUnsigned (register core a) (register core b))
-executed (Add d a b) core = put_sum core d (register core a) (register core b) false
-executed (Addc d a b) core = put_sum core d (register core a) (register core b) (carry core)
-executed (Sub d a b) core = put_difference core d (register core a) (register core b)
-executed (And d a b) core = Ok (put core d (bit_and (register core a) (register core b)))
-executed (Or d a b) core = Ok (put core d (bit_or (register core a) (register core b)))
-executed (Xor d a b) core = Ok (put core d (bit_xor (register core a) (register core b)))
-executed (Cmov d a b) core = Ok (put_chosen core d (register core a) (register core b))
-executed (Mul d a b) core = put_product core d (register core a) (register core b)
-executed (Div d a b) core = put_quotient core d (register core a) (register core b)
-executed (Divu d a b) core = Ok (put_unsigned_quotient core d (register core a) (register core b))
-executed (Mulu d a b) core = Ok (put_unsigned_product core d (register core a) (register core b))
-executed (Sll d a b) core = Ok (put_shifted core d Lower (register core a) (register core b))
-executed (Srl d a b) core = Ok (put_shifted core d Upper (register core a) (register core b))
-executed (Sra d a b) core = Ok (put_shifted core d Arithmetic (register core a) (register core b))
-executed (Ror d a b) core = Ok (put_shifted core d Rotate (register core a) (register core b))
-executed (Muld a b) core = Ok (put_accumulator core Set (register core a) (register core b))
-executed (Muldu a b) core = Ok (put_accumulator core SetUnsigned (register core a) (register core b))
-executed (Ff1 d a) core = Ok (put_lowest_one core d (register core a))
-executed (Fl1 d a) core = Ok (put_highest_one core d (register core a))
-executed (Exths d a) core = Ok (put_extended core d HalfSigned (register core a))
-executed (Extbs d a) core = Ok (put_extended core d ByteSigned (register core a))
-executed (Exthz d a) core = Ok (put_extended core d HalfZero (register core a))
-executed (Extbz d a) core = Ok (put_extended core d ByteZero (register core a))
-executed (Extws d a) core = Ok (put core d (register core a))
-executed (Extwz d a) core = Ok (put core d (register core a))
-executed (Sfeq a b) core = Ok (put_comparison core Eq (register core a) (register core b))
-executed (Sfne a b) core = Ok (put_comparison core Ne (register core a) (register core b))
-executed (Sfgtu a b) core = Ok (put_comparison core Gtu (register core a) (register core b))
-executed (Sfgeu a b) core = Ok (put_comparison core Geu (register core a) (register core b))
-executed (Sfltu a b) core = Ok (put_comparison core Ltu (register core a) (register core b))
-executed (Sfleu a b) core = Ok (put_comparison core Leu (register core a) (register core b))
-executed (Sfgts a b) core = Ok (put_comparison core Gts (register core a) (register core b))
-executed (Sfges a b) core = Ok (put_comparison core Ges (register core a) (register core b))
-executed (Sflts a b) core = Ok (put_comparison core Lts (register core a) (register core b))
-executed (Sfles a b) core = Ok (put_comparison core Les (register core a) (register core b))
-executed (Lwa d a i) core = Err Illegal
-executed (Lwz d a i) core = Err Illegal
-executed (Lws d a i) core = Err Illegal
-executed (Lbz d a i) core = Err Illegal
-executed (Lbs d a i) core = Err Illegal
-executed (Lhz d a i) core = Err Illegal
-executed (Lhs d a i) core = Err Illegal
-executed (Swa a b i) core = Err Illegal
-executed (Sw a b i) core = Err Illegal
-executed (Sb a b i) core = Err Illegal
-executed (Sh a b i) core = Err Illegal
+executed (MoveHigh d k) core = Ok (put core d (k * 65536))
+executed (TakeAccumulator d) core = Ok (accumulator_read core d)
+executed (Sync kind) core = Ok (next_instruction core)
+executed ReturnFromException core = Ok (exception_return core)
+executed (ArithmeticImmediate kind d a i) core = put_arithmetic core (on_registers kind) d (register core a) (immediate i)
+executed (AndImmediate d a k) core = Ok (put core d (bit_and (register core a) k))
+executed (OrImmediate d a k) core = Ok (put core d (bit_or (register core a) k))
+executed (MoveFromSpecial d a k) core = Ok (put core d (special core (bit_or (register core a) k)))
+executed (MoveToSpecial a b k) core = Ok (next_instruction (special_written core (bit_or (register core a) k) (register core b)))
+executed (ShiftImmediate kind d a l) core = Ok (put_shifted core d kind (register core a) l)
+executed (Shift kind d a b) core = Ok (put_shifted core d kind (register core a) (register core b))
+executed (CompareImmediate code a i) core = Ok (put_comparison core code (register core a) (immediate i))
+executed (Compare code a b) core = Ok (put_comparison core code (register core a) (register core b))
+executed (AccumulateImmediate a i) core = Ok (put_accumulator core Plus (register core a) (immediate i))
+executed (Accumulate kind a b) core = Ok (put_accumulator core kind (register core a) (register core b))
+executed (Arithmetic kind d a b) core = put_arithmetic core kind d (register core a) (register core b)
+executed (Extend width sign d a) core = Ok (put_extended core d (extension width sign) (register core a))
+executed (FindFirst d a) core = Ok (put_lowest_one core d (register core a))
+executed (FindLast d a) core = Ok (put_highest_one core d (register core a))
+executed (Load width sign d a i) core = Err Illegal
+executed (LoadLinked d a i) core = Err Illegal
+executed (Store width a b i) core = Err Illegal
+executed (StoreConditional a b i) core = Err Illegal

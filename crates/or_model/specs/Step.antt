@@ -1,11 +1,9 @@
 -- One step of a core in a world: one retired instruction, or one exception entry.
 use Rattle.std.specs.Prelude.{ℕ, ◌+◌, Bool, true, false, not, ◌==◌, ◌&&◌, ◌||◌, if◌then◌else◌, List, [], Option, Some, None, Result, Ok, Err, is_some, bit_or}
 use Rattle.or_isa.specs.declared.Insn.{Insn}
-use Rattle.or_isa.specs.declared.Insn.TheVariants.{J, Jal, Bnf, Bf, Jr, Jalr, Rfe, Mfspr, Mtspr, Lwa, Lwz, Lws, Lbz, Lbs, Lhz, Lhs, Swa, Sw, Sb, Sh}
+use Rattle.or_isa.specs.declared.Insn.TheVariants.{Jump, Branch, JumpRegister, ReturnFromException, MoveFromSpecial, MoveToSpecial, Load, LoadLinked, Store, StoreConditional}
 use Rattle.or_isa.specs.Decode.{decode_of}
 use Rattle.or_isa.specs.Bus.{needs_bus_of}
-use Rattle.or_words.specs.declared.Width.TheVariants.{Byte, Half, Word}
-use Rattle.or_words.specs.declared.ExtendKind.TheVariants.{HalfSigned, ByteSigned, HalfZero, ByteZero, Whole}
 use Rattle.or_parts.specs.declared.Cause.{Cause}
 use Rattle.or_parts.specs.declared.Cause.TheVariants.{Tick, External, Illegal, BusError}
 use Rattle.or_parts.specs.Bits.{has, plus, immediate}
@@ -22,7 +20,7 @@ use Rattle.or_model.specs.World.{World, new_world, after_drop}
 use Rattle.or_model.specs.Bus.{Answer, fetch}
 use Rattle.or_model.specs.Routes.{fetch_route, cached_instruction}
 use Rattle.or_model.specs.DataAccess.{State, Outcome, loaded, stored_value, loaded_linked, stored_conditional}
-use Rattle.or_model.specs.Execute.{executed}
+use Rattle.or_model.specs.Execute.{extension, executed}
 
 abbrev pub stop_after : Option Stop → ℕ → ℕ → Option Stop
 stop_after (Some stop) steps budget = Some stop
@@ -38,20 +36,17 @@ retired core = let timer = ticked core.ttmr core.ttcr in with_step_counted (reco
 
 -- what may not stand in a delay slot
 abbrev pub is_barred_from_slot : Insn → Bool
-is_barred_from_slot (J n) = true
-is_barred_from_slot (Jal n) = true
-is_barred_from_slot (Bnf n) = true
-is_barred_from_slot (Bf n) = true
-is_barred_from_slot (Jr b) = true
-is_barred_from_slot (Jalr b) = true
-is_barred_from_slot Rfe = true
+is_barred_from_slot (Jump link n) = true
+is_barred_from_slot (Branch on n) = true
+is_barred_from_slot (JumpRegister link b) = true
+is_barred_from_slot ReturnFromException = true
 is_barred_from_slot _ = false
 
 -- what user mode may not do
 abbrev pub is_privileged : Insn → Bool
-is_privileged Rfe = true
-is_privileged (Mfspr d a k) = true
-is_privileged (Mtspr a b k) = true
+is_privileged ReturnFromException = true
+is_privileged (MoveFromSpecial d a k) = true
+is_privileged (MoveToSpecial a b k) = true
 is_privileged _ = false
 
 unfoldable pub is_misplaced : Core → Insn → Bool
@@ -59,23 +54,16 @@ is_misplaced core insn = (is_some core.branch && is_barred_from_slot insn) || (n
 
 -- the register that an l.mtspr writes
 abbrev pub spr_number : Core → Insn → ℕ
-spr_number core (Mtspr a b k) = bit_or (register core a) k
+spr_number core (MoveToSpecial a b k) = bit_or (register core a) k
 spr_number core _ = 0
 
 -- an instruction that asks the bus
 unfoldable pub executed_on_bus : Insn → Core → World → Outcome
-executed_on_bus (Lwa d a i) core world = loaded_linked core world d (plus (register core a) (immediate i))
-executed_on_bus (Lwz d a i) core world = loaded core world d Word Whole (plus (register core a) (immediate i))
-executed_on_bus (Lws d a i) core world = loaded core world d Word Whole (plus (register core a) (immediate i))
-executed_on_bus (Lbz d a i) core world = loaded core world d Byte ByteZero (plus (register core a) (immediate i))
-executed_on_bus (Lbs d a i) core world = loaded core world d Byte ByteSigned (plus (register core a) (immediate i))
-executed_on_bus (Lhz d a i) core world = loaded core world d Half HalfZero (plus (register core a) (immediate i))
-executed_on_bus (Lhs d a i) core world = loaded core world d Half HalfSigned (plus (register core a) (immediate i))
-executed_on_bus (Swa a b i) core world = stored_conditional core world (register core b) (plus (register core a) (immediate i))
-executed_on_bus (Sw a b i) core world = stored_value core world (register core b) Word (plus (register core a) (immediate i))
-executed_on_bus (Sb a b i) core world = stored_value core world (register core b) Byte (plus (register core a) (immediate i))
-executed_on_bus (Sh a b i) core world = stored_value core world (register core b) Half (plus (register core a) (immediate i))
-executed_on_bus (Mtspr a b k) core world = Ok (record { core = next_instruction core; world = after_drop world core.number (register core b) })
+executed_on_bus (Load width signed d a i) core world = loaded core world d width (extension width signed) (plus (register core a) (immediate i))
+executed_on_bus (LoadLinked d a i) core world = loaded_linked core world d (plus (register core a) (immediate i))
+executed_on_bus (Store width a b i) core world = stored_value core world (register core b) width (plus (register core a) (immediate i))
+executed_on_bus (StoreConditional a b i) core world = stored_conditional core world (register core b) (plus (register core a) (immediate i))
+executed_on_bus (MoveToSpecial a b k) core world = Ok (record { core = next_instruction core; world = after_drop world core.number (register core b) })
 executed_on_bus _ core world = Err Illegal
 
 -- the core retires its instruction, or enters an exception: both are a step

@@ -33,13 +33,12 @@ pub struct Config {
 /// A shift to the left or to the right, or a rotation to the right.
 #[derive(Clone, Copy, Debug, PartialEq, Eq)]
 pub enum ShiftKind {
-    /// To the left.
-    Lower,
+    Left,
     /// To the right, with zeros.
-    Upper,
+    RightLogical,
     /// To the right, with copies of the sign.
-    Arithmetic,
-    Rotate,
+    RightArithmetic,
+    RotateRight,
 }
 
 /// Which part of a word is kept, and how it is extended.
@@ -182,10 +181,10 @@ pub fn shift(kind: ShiftKind, a: u32, n: u32) -> u32
 {
     let places = n % 32;
     match kind {
-        ShiftKind::Lower => a << places,
-        ShiftKind::Upper => a >> places,
-        ShiftKind::Arithmetic => (a.cast_signed() >> places).cast_unsigned(),
-        ShiftKind::Rotate => a.rotate_right(places),
+        ShiftKind::Left => a << places,
+        ShiftKind::RightLogical => a >> places,
+        ShiftKind::RightArithmetic => (a.cast_signed() >> places).cast_unsigned(),
+        ShiftKind::RotateRight => a.rotate_right(places),
     }
 }
 
@@ -302,8 +301,8 @@ mod tests {
 
     #[test]
     fn bits(rt: HostRuntime) {
-        assert_eq!(rt; shift(ShiftKind::Arithmetic, 0x8000_0000, 33), 0xc000_0000);
-        assert_eq!(rt; shift(ShiftKind::Rotate, 0x8000_0001, 1), 0xc000_0000);
+        assert_eq!(rt; shift(ShiftKind::RightArithmetic, 0x8000_0000, 33), 0xc000_0000);
+        assert_eq!(rt; shift(ShiftKind::RotateRight, 0x8000_0001, 1), 0xc000_0000);
         assert_eq!(rt; extend(ExtendKind::ByteSigned, 0x1234_5680), 0xffff_ff80);
         assert_eq!(rt; (ff1(0), ff1(12), fl1(0), fl1(12)), (0, 3, 0, 4));
     }

@@ -1,0 +1,6 @@
+use Rattle.std.proofs.Common.{rules}
+use Rattle.or_isa.proofs.Comparisons.{at_compare_immediate}
+use Rattle.or_isa.proofs.decoding.compared_with.Goals as goal
+
+pub returns : goal.returns
+returns c = let row = at_compare_immediate c.args.code c.args.w c.ranges.w.fits c.requires.opcode c.requires.code in search rules

@@ -1,0 +1,6 @@
+use Rattle.std.proofs.Common.{rules}
+use Rattle.or_isa.proofs.Arithmetic.{at_arithmetic}
+use Rattle.or_isa.proofs.decoding.operated.Goals as goal
+
+pub returns : goal.returns
+returns c = let row = at_arithmetic c.args.kind c.args.w c.ranges.w.fits c.requires.opcode c.requires.code in search rules
