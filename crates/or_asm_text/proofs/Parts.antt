@@ -1,46 +1,74 @@
 -- An instruction as its name and its operands.
-use Rattle.std.proofs.Common.{◌≡◌, refl, Some, rules, arith}
+use Rattle.std.proofs.Common.{◌≡◌, Bool, true, false, refl, ap, sym, subst, ◌∙◌, pos, Some, rules, arith}
 use Rattle.or_isa.specs.declared.Insn.{Insn}
-use Rattle.or_isa.specs.declared.Insn.TheVariants.{J}
+use Rattle.or_isa.specs.declared.Insn.TheVariants as insn
+use Rattle.or_words.specs.declared.Width.{Width}
+use Rattle.or_words.specs.declared.Width.TheVariants.{Byte, Half, Word}
+use Rattle.or_words.specs.declared.ShiftKind.{ShiftKind}
+use Rattle.or_words.specs.declared.ShiftKind.TheVariants.{Left}
+use Rattle.or_words.specs.declared.CompareCode.{CompareCode}
+use Rattle.or_words.specs.declared.CompareCode.TheVariants.{Eq}
+use Rattle.or_words.specs.declared.MacKind.{MacKind}
+use Rattle.or_words.specs.declared.MacKind.TheVariants.{Plus}
+use Rattle.or_isa.specs.declared.ArithmeticKind.{ArithmeticKind}
+use Rattle.or_isa.specs.declared.ArithmeticKind.TheVariants as arithmetic
+use Rattle.or_isa.specs.declared.ImmediateKind.{ImmediateKind}
+use Rattle.or_isa.specs.declared.ImmediateKind.TheVariants as immediate
+use Rattle.or_isa.specs.declared.SyncKind.{SyncKind}
+use Rattle.or_isa.specs.declared.SyncKind.TheVariants.{Memory}
 use Rattle.or_isa.specs.Fits.{Fits}
-use Rattle.or_asm_text.specs.declared.mnemonic.Mnemonic.{Mnemonic}
-use Rattle.or_asm_text.specs.declared.mnemonic.Mnemonic.TheVariants as name
+use Rattle.or_isa.specs.Word.{word_of}
+use Rattle.or_isa.specs.Decode.{decode_of}
+use Rattle.or_isa.specs.Fields.{d_of, a_of, b_of, k_of, l_of, i_of, n_of, pages_of, split_k_of, split_i_of}
 use Rattle.or_asm_text.specs.declared.operands.Operands.{Operands}
-use Rattle.or_asm_text.specs.Parts.{mnemonic_of, operands_of, insn_of}
-use Rattle.or_asm_text.specs.Names.{name_of, mnemonics, mnemonic_named}
+use Rattle.or_asm_text.specs.Parts.{operands_with, operands_of, with_operands, bare}
+use Rattle.or_asm_text.specs.Names.{rows, name_of, insn_named}
 use Rattle.or_asm_text.specs.Slots.{slots_of}
 use Rattle.or_asm_text.specs.Ranges.{RegistersFit, ValueFits, filled}
 
-pub whole : (i : Insn) → insn_of (mnemonic_of i) (operands_of i) ≡ i
-unfolding mnemonic_of operands_of insn_of
-whole (J n) = refl
+pub whole : (i : Insn) → with_operands (bare i) (operands_of i) ≡ i
+unfolding operands_of with_operands bare
+whole (insn.Jump link n) = refl
 whole _ = refl
 
-pub all_filled : (i : Insn) → filled (slots_of (mnemonic_of i)) (operands_of i) ≡ operands_of i
-unfolding mnemonic_of operands_of slots_of
-all_filled (J n) = refl
+-- what is the same without operands
+pub bare_with : (i : Insn) (o : Operands) → with_operands (bare i) o ≡ with_operands i o
+unfolding with_operands bare
+bare_with (insn.Jump link n) o = refl
+bare_with _ o = refl
+
+pub bare_slots : (i : Insn) → slots_of (bare i) ≡ slots_of i
+unfolding slots_of with_operands bare
+bare_slots (insn.Jump link n) = refl
+bare_slots _ = refl
+
+pub all_filled : (i : Insn) → filled (slots_of i) (operands_of i) ≡ operands_of i
+unfolding operands_of slots_of
+all_filled (insn.Jump link n) = refl
 all_filled _ = refl
 
-pub each_named : (m : Mnemonic) → mnemonic_named (name_of m) ≡ Some m
-unfolding mnemonic_named mnemonics name_of
-each_named name.J = refl
-each_named _ = refl
-
-pub fits : (m : Mnemonic) (o : Operands) → RegistersFit o → ValueFits (slots_of m) o.value → Fits (insn_of m o)
-unfolding slots_of insn_of
-fits name.J o registers value = value
-fits name.Msync o registers value = tt
-fits name.Psync o registers value = tt
-fits name.Csync o registers value = tt
-fits name.Rfe o registers value = tt
+pub fits : (i : Insn) (o : Operands) → RegistersFit o → ValueFits (slots_of i) o.value → Fits (with_operands i o)
+unfolding slots_of with_operands
+fits (insn.Jump link n) o registers value = value
+fits (insn.Sync kind) o registers value = tt
+fits insn.ReturnFromException o registers value = tt
 fits _ o registers value = assumption
+
+zero_fits : (i : Insn) → ValueFits (slots_of i) (pos 0)
+unfolding slots_of
+zero_fits (insn.Jump link n) = omega arith
+zero_fits _ = search (rules, arith)
+
+pub bare_fits : (i : Insn) → Fits (bare i)
+unfolding bare
+bare_fits i = fits i (operands_with 0 0 0 (pos 0)) (record { d = omega arith; a = omega arith; b = omega arith }) (zero_fits i)
 
 pub registers_fit : (i : Insn) → Fits i → RegistersFit (operands_of i)
 unfolding operands_of
-registers_fit (J n) fit = record { d = omega arith; a = omega arith; b = omega arith }
+registers_fit (insn.Jump link n) fit = record { d = omega arith; a = omega arith; b = omega arith }
 registers_fit _ fit = record { d = omega arith; a = omega arith; b = omega arith }
 
-pub value_fits : (i : Insn) → Fits i → ValueFits (slots_of (mnemonic_of i)) (operands_of i).value
-unfolding slots_of mnemonic_of operands_of
-value_fits (J n) fit = fit
+pub value_fits : (i : Insn) → Fits i → ValueFits (slots_of i) (operands_of i).value
+unfolding slots_of operands_of
+value_fits (insn.Jump link n) fit = fit
 value_fits _ fit = search rules

@@ -10,7 +10,7 @@ use Rattle.or_asm_text.specs.declared.operands.Slot.{Slot}
 use Rattle.or_asm_text.specs.declared.operands.Slot.TheVariants.{D, A, B, Signed, Half, HighHalf, LowHalf, Shift, Page, Target, Memory}
 use Rattle.or_asm_text.specs.Names.{name_of}
 use Rattle.or_asm_text.specs.Slots.{slots_of}
-use Rattle.or_asm_text.specs.Parts.{mnemonic_of, operands_of, natural}
+use Rattle.or_asm_text.specs.Parts.{operands_of, natural}
 
 abbrev pub register_text : ℕ → List ℕ
 register_text r = 114 ∷ decimal r
@@ -42,4 +42,4 @@ slots_text pc o [] = []
 slots_text pc o (slot ∷ slots) = codes " " ++ slot_text pc slot o ++ further_text pc o slots
 
 unfoldable pub text_of : ℕ → Insn → List ℕ
-text_of pc i = name_of (mnemonic_of i) ++ slots_text pc (operands_of i) (slots_of (mnemonic_of i))
+text_of pc i = name_of i ++ slots_text pc (operands_of i) (slots_of i)

@@ -1,8 +1,8 @@
 //! The 89 ORBIS32 instructions as a source writes them (OpenRISC 1000 Architecture Manual 1.3, chapter 5): their
-//! mnemonics, the slots of their operands, and their texts.
+//! names, the slots of their operands, and their texts.
 #![tactic(auto)]
 
-pub mod mnemonic;
+pub mod names;
 pub mod operands;
 pub mod printing;
 #[cfg(test)]

@@ -4,7 +4,7 @@ ghost use Rattle.std.specs.List.{flat_map};
 ghost use Rattle.or_isa.specs.Fits.{Fits};
 ghost use Rattle.or_asm_text.specs.Texts.{register_text, slot_text, slots_text, further_text, text_of, target_of};
 
-use crate::mnemonic::{mnemonic_for, name};
+use crate::names::name;
 use crate::operands::{Operands, Slot, natural, operands_for, slots};
 use or_isa::Insn;
 use or_text::{append_decimal, append_hexadecimal, append_signed};
@@ -97,9 +97,8 @@ fn append_text(alloc: Global, insn: &Insn, pc: u32, out: &mut Vec<u8>) -> Result
     ensures err { OnErr result (out.new.items ≡ out.old.items) }
 {
     let mut text = Vec::new(alloc);
-    let mnemonic = mnemonic_for(insn);
-    text.extend_from_slice(name(mnemonic).as_bytes())?;
-    append_slots(pc, slots(mnemonic), &operands_for(insn), &mut text)?;
+    text.extend_from_slice(name(insn).as_bytes())?;
+    append_slots(pc, slots(insn), &operands_for(insn), &mut text)?;
     out.extend_from_slice(&text)
 }
 

@@ -1,4 +1,4 @@
-use Rattle.or_asm_text.proofs.Parts.{each_named}
+use Rattle.or_asm_text.proofs.Named.{each_named}
 use Rattle.or_asm_text.proofs.operands.names_differ.Goals as goal
 
 pub returns : goal.returns
