@@ -7,9 +7,9 @@ use Rattle.std.proofs.lemmas.Bool.Decides.{nat_tests}
 use Rattle.or_asm.specs.Program.{extended}
 use Rattle.or_asm.specs.First.{RunsWithoutFault, all_labels}
 use Rattle.or_asm.proofs.Firsts.{program_is}
-use Rattle.or_asm_text.specs.declared.mnemonic.Mnemonic.{Mnemonic}
+use Rattle.or_isa.specs.declared.Insn.{Insn}
 use Rattle.or_asm_text.specs.declared.operands.Operands.{Operands}
-use Rattle.or_asm_text.specs.Names.{mnemonic_named}
+use Rattle.or_asm_text.specs.Names.{insn_named}
 use Rattle.or_asm_read.specs.declared.fault.Fault.{Fault}
 use Rattle.or_asm_read.specs.declared.fault.Fault.TheVariants.{BadLine, OutOfRange, RepeatedLabel, Overlap}
 use Rattle.or_asm_read.specs.declared.statements.Statement.{Statement}
@@ -52,11 +52,11 @@ pub word_words : (r : Result ℤ Fault) → OnlyWords true (word_at r)
 word_words (Err e) = tt
 word_words (Ok z) = word_or (int_le (negsuc 2147483647) z && int_le z (pos 4294967295)) _
 
-made_words : (m : Mnemonic) (r : Result Operands Fault) → OnlyWords true (made_of m r)
+made_words : (m : Insn) (r : Result Operands Fault) → OnlyWords true (made_of m r)
 made_words m (Ok o) = refl
 made_words m (Err e) = tt
 
-pub insn_words : (labels : Labels) (pc : ℕ) (m : Option Mnemonic) (text : List ℕ) → OnlyWords (is_some m) (insn_at labels pc m text)
+pub insn_words : (labels : Labels) (pc : ℕ) (m : Option Insn) (text : List ℕ) → OnlyWords (is_some m) (insn_at labels pc m text)
 insn_words labels pc None text = tt
 insn_words labels pc (Some m) text = made_words m _
 
@@ -152,9 +152,9 @@ passes_agree labels state line e =
     let statement = statement_of line in
     let text = operands_part statement in
     let org = org_at (number_of (trimmed text)) in
-    let lead = by_tests state.place (is_empty statement) (is_org statement) (bytes_eq (name_part statement) (codes ".word")) (is_some (mnemonic_named (name_part statement)))
-    org (word_at (value_at labels (trimmed text))) (insn_at labels state.place (mnemonic_named (name_part statement)) text) f.statement
-    (empty_apart statement) (org_places (number_of (trimmed text))) (word_words (value_at labels (trimmed text))) (insn_words labels state.place (mnemonic_named (name_part statement)) text) f.reads in
+    let lead = by_tests state.place (is_empty statement) (is_org statement) (bytes_eq (name_part statement) (codes ".word")) (is_some (insn_named (name_part statement)))
+    org (word_at (value_at labels (trimmed text))) (insn_at labels state.place (insn_named (name_part statement)) text) f.statement
+    (empty_apart statement) (org_places (number_of (trimmed text))) (word_words (value_at labels (trimmed text))) (insn_words labels state.place (insn_named (name_part statement)) text) f.reads in
     ap (λ r. (carried_out state (state.labels_before + label_count (label_of line)) r).place) f.reads
     ∙ carried_place state (state.labels_before + label_count (label_of line)) f.statement
     ∙ lead
@@ -185,9 +185,9 @@ unfolding puts_word statement_at named_at
 gives_word labels pc statement n e =
     let text = operands_part statement in
     let name = name_part statement in
-    puts_by_tests (is_empty statement) (is_org statement) (bytes_eq name (codes ".word")) (is_some (mnemonic_named name))
-    (org_at (number_of (trimmed text))) (word_at (value_at labels (trimmed text))) (insn_at labels pc (mnemonic_named name) text) n
-    (org_places (number_of (trimmed text))) (word_words (value_at labels (trimmed text))) (insn_words labels pc (mnemonic_named name) text) e
+    puts_by_tests (is_empty statement) (is_org statement) (bytes_eq name (codes ".word")) (is_some (insn_named name))
+    (org_at (number_of (trimmed text))) (word_at (value_at labels (trimmed text))) (insn_at labels pc (insn_named name) text) n
+    (org_places (number_of (trimmed text))) (word_words (value_at labels (trimmed text))) (insn_words labels pc (insn_named name) text) e
 
 -- at most 64 pieces
 length_extended : (w : ℕ) (pieces : List (ℕ × List ℕ)) → length (extended w pieces) ≡ length pieces

@@ -2,7 +2,7 @@
 use Rattle.std.specs.Prelude.{ℕ, ◌+◌, ◌==◌, if◌then◌else◌, Bool, ◌&&◌, ◌||◌, not, List, [], ◌∷◌, codes, Option, Some, None, Result, Ok, Err, is_some}
 use Rattle.std.specs.List.{onto_first}
 use Rattle.std.specs.Str.{bytes_eq}
-use Rattle.or_asm_text.specs.Names.{mnemonic_named}
+use Rattle.or_asm_text.specs.Names.{insn_named}
 use Rattle.or_asm_read.specs.declared.fault.Fault.{Fault}
 use Rattle.or_asm_read.specs.declared.statements.Statement.{Statement}
 use Rattle.or_asm_read.specs.declared.statements.Statement.TheVariants.{Nothing, Place, Word}
@@ -23,7 +23,7 @@ is_org statement = bytes_eq (name_part statement) (codes ".org")
 -- whether a statement puts a word: each that there is, but .org and unknown names
 unfoldable pub puts_word : List ℕ → Bool
 puts_word statement = not (is_empty statement) && not (is_org statement)
-    && (bytes_eq (name_part statement) (codes ".word") || is_some (mnemonic_named (name_part statement)))
+    && (bytes_eq (name_part statement) (codes ".word") || is_some (insn_named (name_part statement)))
 
 -- where a faultless .org leads
 abbrev pub set_place : ℕ → Result Statement Fault → ℕ

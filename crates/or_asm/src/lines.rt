@@ -7,7 +7,7 @@ ghost use Rattle.or_asm.specs.Lines.{lines_of, is_org, puts_word, set_place, pla
 
 use or_asm_read::cuts::{after, before, is_clean, name, operands, statement, trim};
 use or_asm_read::statements::{Statement, org_at};
-use or_asm_text::mnemonic::mnemonic_named;
+use or_asm_text::names::insn_named;
 
 // The first line, and the lines behind it.
 #[tactic(auto, using(crate::proofs::Cut::cuts))]
@@ -33,7 +33,7 @@ pub(crate) fn puts_word(statement: &[u8]) -> bool
 {
     !statement.is_empty()
         && !is_org(statement)
-        && (name(statement) == b".word".as_slice() || mnemonic_named(name(statement)).is_some())
+        && (name(statement) == b".word".as_slice() || insn_named(name(statement)).is_some())
 }
 
 // Where an .org leads.

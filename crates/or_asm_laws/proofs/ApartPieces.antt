@@ -6,7 +6,7 @@ use Rattle.std.specs.Str.{bytes_eq}
 use Rattle.std.proofs.lemmas.List.{length-append}
 use Rattle.std.proofs.lemmas.Bool.{cases_lt}
 use Rattle.std.proofs.lemmas.Bool.Decides.{nat_tests}
-use Rattle.or_asm_text.specs.Names.{mnemonic_named}
+use Rattle.or_asm_text.specs.Names.{insn_named}
 use Rattle.or_asm_read.specs.declared.fault.Fault.{Fault}
 use Rattle.or_asm_read.specs.declared.fault.Fault.TheVariants.{OutOfRange}
 use Rattle.or_asm_read.specs.declared.statements.Statement.{Statement}
@@ -152,9 +152,9 @@ statement_aligned labels pc statement =
     let name = name_part statement in
     let org = org_at (number_of (trimmed text)) in
     let word = word_at (value_at labels (trimmed text)) in
-    let insn = insn_at labels pc (mnemonic_named name) text in
+    let insn = insn_at labels pc (insn_named name) text in
     tests_aligned (is_empty statement) (bytes_eq name (codes ".org")) (bytes_eq name (codes ".word")) org word insn
-    (org_aligned (number_of (trimmed text))) (words_aligned true word (word_words (value_at labels (trimmed text)))) (words_aligned (is_some (mnemonic_named name)) insn (insn_words labels pc (mnemonic_named name) text))
+    (org_aligned (number_of (trimmed text))) (words_aligned true word (word_words (value_at labels (trimmed text)))) (words_aligned (is_some (insn_named name)) insn (insn_words labels pc (insn_named name) text))
 
 -- a word has room, and its place is free
 record HasRoom (state : State) : Type 0 where

@@ -9,3 +9,4 @@ pub mod Sources
 pub mod Spelled
 pub mod Spellings
 pub mod Statements
+mod Names

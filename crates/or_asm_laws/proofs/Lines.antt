@@ -8,11 +8,10 @@ use Rattle.std.proofs.lemmas.List.{length-append}
 use Rattle.std.proofs.lemmas.Fmt.{decimal_is_IsNumeral}
 use Rattle.or_isa.specs.declared.Insn.{Insn}
 use Rattle.or_isa.specs.Fits.{Fits, IsSigned}
-use Rattle.or_asm_text.specs.declared.mnemonic.Mnemonic.{Mnemonic}
 use Rattle.or_asm_text.specs.declared.operands.Operands.{Operands}
 use Rattle.or_asm_text.specs.declared.operands.Slot.{Slot}
 use Rattle.or_asm_text.specs.declared.operands.Slot.TheVariants.{D, A, B, Signed, Half, HighHalf, LowHalf, Shift, Page, Target, Memory}
-use Rattle.or_asm_text.specs.Parts.{mnemonic_of, operands_of}
+use Rattle.or_asm_text.specs.Parts.{operands_of}
 use Rattle.or_asm_text.specs.Names.{name_of}
 use Rattle.or_asm_text.specs.Slots.{slots_of}
 use Rattle.or_asm_text.specs.Texts.{slot_text, further_text, slots_text, text_of}
@@ -21,7 +20,7 @@ use Rattle.or_asm.specs.Lines.{lines_of}
 use Rattle.or_asm_laws.specs.SlotFits.{IsNatural, SlotFits, SlotsFit}
 use Rattle.or_asm_laws.proofs.Spelled.{and_true, not_true, or_left, is_mark, all_append, all_of, none_such, no_blanks, before_none, none_any, skipped_first, ended_same, ended_behind}
 use Rattle.or_asm_laws.proofs.Operands.{all_shown, operands_marks, append_none}
-use Rattle.or_asm_laws.proofs.Statements.{spelling}
+use Rattle.or_asm_laws.proofs.Names.{spelling}
 
 -- the bytes of a line that is printed
 abbrev pub is_line : ℕ → Bool
@@ -118,7 +117,7 @@ ended_some xs [] some f = absurd (omega arith)
 ended_some xs (y ∷ ys) some f = ended_behind xs y ys f
 
 -- what is printed, as a name and what stands behind it
-printed_parts : (pc : ℕ) (m : Mnemonic) (slots : List Slot) (o : Operands) → SlotsFit slots o →
+printed_parts : (pc : ℕ) (m : Insn) (slots : List Slot) (o : Operands) → SlotsFit slots o →
     (list_all is_line (name_of m ++ slots_text pc o slots) ≡ true) × (trimmed_end (name_of m ++ slots_text pc o slots) ≡ name_of m ++ slots_text pc o slots)
 printed_parts pc m [] o h =
     let marks = (spelling m).marks in
@@ -148,17 +147,16 @@ clear_at line x xs e f first last =
 pub text_first : (pc : ℕ) (i : Insn) → (rest : List ℕ) × (text_of pc i ≡ 108 ∷ rest)
 unfolding text_of
 text_first pc i =
-    let m = mnemonic_of i in
-    let behind = slots_text pc (operands_of i) (slots_of m) in
-    (drop 1 (name_of m) ++ behind, ap (λ n. n ++ behind) (spelling m).first)
+    let behind = slots_text pc (operands_of i) (slots_of i) in
+    (drop 1 (name_of i) ++ behind, ap (λ n. n ++ behind) (spelling i).first)
 
 pub text_line : (pc : ℕ) (i : Insn) → Fits i → list_all is_line (text_of pc i) ≡ true
 unfolding text_of
-text_line pc i fit = (printed_parts pc (mnemonic_of i) (slots_of (mnemonic_of i)) (operands_of i) (all_shown i fit)).0
+text_line pc i fit = (printed_parts pc i (slots_of i) (operands_of i) (all_shown i fit)).0
 
 text_ended : (pc : ℕ) (i : Insn) → Fits i → trimmed_end (text_of pc i) ≡ text_of pc i
 unfolding text_of
-text_ended pc i fit = (printed_parts pc (mnemonic_of i) (slots_of (mnemonic_of i)) (operands_of i) (all_shown i fit)).1
+text_ended pc i fit = (printed_parts pc i (slots_of i) (operands_of i) (all_shown i fit)).1
 
 pub text_clear : (pc : ℕ) (i : Insn) → Fits i → Clear (text_of pc i)
 text_clear pc i fit =

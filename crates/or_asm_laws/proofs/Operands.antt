@@ -4,12 +4,12 @@ use Rattle.std.specs.Prelude.{◌==◌}
 use Rattle.std.specs.Fmt.{signed_decimal}
 use Rattle.std.specs.List.{list_all}
 use Rattle.or_isa.specs.declared.Insn.{Insn}
-use Rattle.or_isa.specs.declared.Insn.TheVariants.{J}
+use Rattle.or_isa.specs.declared.Insn.TheVariants.{Jump}
 use Rattle.or_isa.specs.Fits.{Fits, IsSigned}
 use Rattle.or_asm_text.specs.declared.operands.Operands.{Operands}
 use Rattle.or_asm_text.specs.declared.operands.Slot.{Slot}
 use Rattle.or_asm_text.specs.declared.operands.Slot.TheVariants.{D, A, B, Signed, Half, HighHalf, LowHalf, Shift, Page, Target, Memory}
-use Rattle.or_asm_text.specs.Parts.{operands_with, natural, mnemonic_of, operands_of}
+use Rattle.or_asm_text.specs.Parts.{operands_with, natural, operands_of}
 use Rattle.or_asm_text.specs.Ranges.{filled}
 use Rattle.or_asm_text.specs.Slots.{slots_of}
 use Rattle.or_text.specs.Hexadecimal.{hexadecimal}
@@ -22,9 +22,9 @@ use Rattle.or_asm_laws.specs.SlotFits.{IsNatural, SlotFits, SlotsFit}
 use Rattle.or_asm_laws.proofs.Spelled.{or_left, is_mark, is_plain, all_append, all_of, later_plain, plain_mark, none_such, no_blanks, trimmed_same, before_at, after_at}
 use Rattle.or_asm_laws.proofs.Places.{shown, placed_shown, slot_again, hex_later, register_later, signed_plain, target_small}
 
-pub all_shown : (i : Insn) → Fits i → SlotsFit (slots_of (mnemonic_of i)) (operands_of i)
-unfolding slots_of mnemonic_of operands_of
-all_shown (J n) fit = (fit, tt)
+pub all_shown : (i : Insn) → Fits i → SlotsFit (slots_of i) (operands_of i)
+unfolding slots_of operands_of
+all_shown (Jump link n) fit = (fit, tt)
 all_shown _ fit = search rules
 
 later_mark : (b : ℕ) → is_label_byte b ≡ true → is_mark b ≡ true

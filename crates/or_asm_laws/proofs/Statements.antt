@@ -1,20 +1,21 @@
 -- What is printed is a statement that puts the instruction's word.
-use Rattle.std.proofs.Common.{◌≡◌, ◌∙◌, refl, sym, ap, ℕ, ◌%◌, ◌^◌, ◌<◌, true, false, cond, List, [], ◌∷◌, ◌++◌, drop, codes, Ok}
+use Rattle.std.proofs.Common.{◌≡◌, ◌∙◌, refl, sym, ap, ℕ, ◌%◌, ◌^◌, ◌<◌, true, false, cond, List, [], ◌∷◌, ◌++◌, drop, codes, Result, Ok, Err}
 use Rattle.std.specs.List.{list_all, before_first, after_first}
 use Rattle.std.specs.Str.{bytes_eq}
 use Rattle.or_isa.specs.declared.Insn.{Insn}
 use Rattle.or_isa.specs.Fits.{Fits}
 use Rattle.or_isa.specs.Word.{word_of}
-use Rattle.or_asm_text.specs.declared.mnemonic.Mnemonic.{Mnemonic}
-use Rattle.or_asm_text.specs.declared.mnemonic.Mnemonic.TheVariants as name
 use Rattle.or_asm_text.specs.declared.operands.Operands.{Operands}
 use Rattle.or_asm_text.specs.declared.operands.Slot.{Slot}
-use Rattle.or_asm_text.specs.Parts.{mnemonic_of, operands_of}
-use Rattle.or_asm_text.specs.Names.{name_of, mnemonic_named}
+use Rattle.or_asm_text.specs.Parts.{operands_of, with_operands, bare}
+use Rattle.or_asm_text.specs.Names.{name_of, insn_named}
 use Rattle.or_asm_text.specs.Ranges.{filled}
 use Rattle.or_asm_text.specs.Slots.{slots_of}
 use Rattle.or_asm_text.specs.Texts.{slot_text, further_text, slots_text, text_of}
-use Rattle.or_asm_text.proofs.Parts.{whole, all_filled, each_named}
+use Rattle.or_asm_text.proofs.Parts.{whole, bare_with, bare_slots, all_filled}
+use Rattle.or_asm_text.proofs.Named.{each_named}
+use Rattle.or_asm_laws.proofs.Names.{Spelling, spelling}
+use Rattle.or_asm_read.specs.declared.fault.Fault.{Fault}
 use Rattle.or_asm_read.specs.declared.statements.Statement.TheVariants.{Nothing, Word}
 use Rattle.or_asm_read.specs.Cuts.{is_blank, trimmed, name_part, operands_part}
 use Rattle.or_asm_read.specs.Numbers.{number_of}
@@ -25,31 +26,26 @@ use Rattle.or_asm_laws.specs.SlotFits.{SlotsFit}
 use Rattle.or_asm_laws.proofs.Spelled.{is_mark, no_blanks, before_at, after_at, before_none, after_none}
 use Rattle.or_asm_laws.proofs.Operands.{all_shown, operands_again, append_none}
 
--- what a name is made of
-pub record Spelling (m : Mnemonic) : Type 0 where
-  pub marks : list_all is_mark (name_of m) ≡ true
-  pub first : name_of m ≡ 108 ∷ drop 1 (name_of m)
-  pub not_org : bytes_eq (name_of m) (codes ".org") ≡ false
-  pub not_word : bytes_eq (name_of m) (codes ".word") ≡ false
+-- an instruction without operands takes the same operands
+made_bare : (i : Insn) (r : Result Operands Fault) → made_of (bare i) r ≡ made_of i r
+made_bare i (Ok o) = ap (λ j. Ok (Word (word_of j))) (bare_with i o)
+made_bare i (Err e) = refl
 
-pub spelling : (m : Mnemonic) → Spelling m
-unfolding name_of
-spelling name.J = record { marks = refl; first = refl; not_org = refl; not_word = refl }
-spelling _ = record { marks = refl; first = refl; not_org = refl; not_word = refl }
-
-named_again : (labels : Labels) (pc : ℕ) (m : Mnemonic) (text : List ℕ) → named_at labels pc (name_of m) text ≡ made_of m (operands_at labels pc (slots_of m) text)
+named_again : (labels : Labels) (pc : ℕ) (i : Insn) (text : List ℕ) → named_at labels pc (name_of i) text ≡ made_of i (operands_at labels pc (slots_of i) text)
 unfolding named_at
-named_again labels pc m text =
-    let s = spelling m in
+named_again labels pc i text =
+    let s = spelling i in
     let org = org_at (number_of (trimmed text)) in
     let word = word_at (value_at labels (trimmed text)) in
-    let other = insn_at labels pc (mnemonic_named (name_of m)) text in
-    ap (λ t. cond t org (cond (bytes_eq (name_of m) (codes ".word")) word other)) s.not_org
+    let other = insn_at labels pc (insn_named (name_of i)) text in
+    ap (λ t. cond t org (cond (bytes_eq (name_of i) (codes ".word")) word other)) s.not_org
     ∙ ap (λ t. cond t word other) s.not_word
-    ∙ ap (λ x. insn_at labels pc x text) (each_named m)
+    ∙ ap (λ x. insn_at labels pc x text) (each_named i)
+    ∙ ap (λ slots. made_of (bare i) (operands_at labels pc slots text)) (bare_slots i)
+    ∙ made_bare i (operands_at labels pc (slots_of i) text)
 
 -- a name and what stands behind it
-split_again : (labels : Labels) (pc : ℕ) (m : Mnemonic) (behind text : List ℕ) → name_part (name_of m ++ behind) ≡ name_of m → operands_part (name_of m ++ behind) ≡ text
+split_again : (labels : Labels) (pc : ℕ) (m : Insn) (behind text : List ℕ) → name_part (name_of m ++ behind) ≡ name_of m → operands_part (name_of m ++ behind) ≡ text
     → statement_at labels pc (name_of m ++ behind) ≡ made_of m (operands_at labels pc (slots_of m) text)
 unfolding statement_at
 split_again labels pc m behind text front back =
@@ -61,7 +57,7 @@ split_again labels pc m behind text front back =
     ∙ named_again labels pc m text
 
 -- for any places among the operands
-slots_again : (labels : Labels) (pc : ℕ) (m : Mnemonic) (slots : List Slot) (o : Operands) → slots ≡ slots_of m → pc < 2 ^ 28 → pc % 4 ≡ 0 → SlotsFit slots o
+slots_again : (labels : Labels) (pc : ℕ) (m : Insn) (slots : List Slot) (o : Operands) → slots ≡ slots_of m → pc < 2 ^ 28 → pc % 4 ≡ 0 → SlotsFit slots o
     → statement_at labels pc (name_of m ++ slots_text pc o slots) ≡ made_of m (Ok (filled slots o))
 unfolding name_part operands_part
 slots_again labels pc m [] o e small aligned h =
@@ -76,9 +72,12 @@ slots_again labels pc m (slot ∷ slots) o e small aligned h =
     ∙ ap (λ x. made_of m (operands_at labels pc x text)) (sym e)
     ∙ ap (made_of m) (operands_again labels pc slot slots o small aligned h)
 
+again : (i : Insn) → with_operands i (operands_of i) ≡ i
+again i = sym (bare_with i (operands_of i)) ∙ whole i
+
 pub statement_again : (labels : Labels) (pc : ℕ) (i : Insn) → Fits i → pc < 2 ^ 28 → pc % 4 ≡ 0 → statement_at labels pc (text_of pc i) ≡ Ok (Word (word_of i))
 unfolding text_of
 statement_again labels pc i fit small aligned =
-    slots_again labels pc (mnemonic_of i) (slots_of (mnemonic_of i)) (operands_of i) refl small aligned (all_shown i fit)
-    ∙ ap (λ o. made_of (mnemonic_of i) (Ok o)) (all_filled i)
-    ∙ ap (λ j. Ok (Word (word_of j))) (whole i)
+    slots_again labels pc i (slots_of i) (operands_of i) refl small aligned (all_shown i fit)
+    ∙ ap (λ o. made_of i (Ok o)) (all_filled i)
+    ∙ ap (λ j. Ok (Word (word_of j))) (again i)

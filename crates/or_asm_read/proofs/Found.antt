@@ -2,11 +2,11 @@
 use Rattle.std.proofs.Common.{◌≡◌, refl, sym, ℕ, ◌^◌, ◌<◌, ℤ, pos, negsuc, Bool, true, false, cond, ◌&&◌, ◌%◌, ◌/◌, codes, leb, ltb, eqb, List, [], ◌∷◌, Option, Some, None, Result, Ok, Err, subst, arith}
 use Rattle.std.proofs.lemmas.Bool.Decides.{nat_tests}
 use Rattle.or_isa.specs.Fits.{Fits, IsSigned}
-use Rattle.or_asm_text.specs.declared.mnemonic.Mnemonic.{Mnemonic}
+use Rattle.or_isa.specs.declared.Insn.{Insn}
 use Rattle.or_asm_text.specs.declared.operands.Operands.{Operands}
 use Rattle.or_asm_text.specs.declared.operands.Slot.{Slot}
 use Rattle.or_asm_text.specs.declared.operands.Slot.TheVariants.{D, A, B, Signed, Half, HighHalf, LowHalf, Shift, Page, Target, Memory}
-use Rattle.or_asm_text.specs.Parts.{operands_with, natural, insn_of}
+use Rattle.or_asm_text.specs.Parts.{operands_with, natural, with_operands}
 use Rattle.or_asm_text.specs.Slots.{slots_of}
 use Rattle.or_asm_text.specs.Ranges.{RegistersFit, ValueFits}
 use Rattle.or_asm_text.proofs.Parts.{fits}
@@ -165,7 +165,7 @@ operands_give labels pc (slot ∷ []) text = joined_fit slot [] (slot_at labels 
 operands_give labels pc (slot ∷ next ∷ slots) text = joined_fit slot (next ∷ slots) (slot_at labels pc slot (trimmed (before 44 text))) (operands_at labels pc (next ∷ slots) (after 44 text)) (slot_gives labels pc slot (trimmed (before 44 text))) (operands_give labels pc (next ∷ slots) (after 44 text))
 
 -- operands that are read make an instruction that fits
-pub made_fits : (m : Mnemonic) (o : Operands) (labels : Labels) (pc : ℕ) (text : List ℕ) → Ok o ≡ operands_at labels pc (slots_of m) text → Fits (insn_of m o)
+pub made_fits : (m : Insn) (o : Operands) (labels : Labels) (pc : ℕ) (text : List ℕ) → Ok o ≡ operands_at labels pc (slots_of m) text → Fits (with_operands m o)
 made_fits m o labels pc text e =
     let P : Result Operands Fault → Type 0 = Gives (Fit (slots_of m)) in
     let fit : Fit (slots_of m) o = subst P (sym e) (operands_give labels pc (slots_of m) text) in

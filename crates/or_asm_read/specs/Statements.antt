@@ -3,10 +3,10 @@ use Rattle.std.specs.Prelude.{ℕ, ◌%◌, ◌^◌, ◌<◌, ◌==◌, nat_lt, 
 use Rattle.std.specs.Int.{cast_unsigned, w32}
 use Rattle.std.specs.Str.{bytes_eq}
 use Rattle.or_isa.specs.Word.{word_of}
-use Rattle.or_asm_text.specs.declared.mnemonic.Mnemonic.{Mnemonic}
+use Rattle.or_isa.specs.declared.Insn.{Insn}
 use Rattle.or_asm_text.specs.declared.operands.Operands.{Operands}
-use Rattle.or_asm_text.specs.Parts.{insn_of}
-use Rattle.or_asm_text.specs.Names.{mnemonic_named}
+use Rattle.or_asm_text.specs.Parts.{with_operands}
+use Rattle.or_asm_text.specs.Names.{insn_named}
 use Rattle.or_asm_text.specs.Slots.{slots_of}
 use Rattle.or_asm_read.specs.declared.fault.Fault.{Fault}
 use Rattle.or_asm_read.specs.declared.fault.Fault.TheVariants.{BadLine, UnknownName, OutOfRange}
@@ -35,19 +35,20 @@ abbrev pub word_at : Result ℤ Fault → Result Statement Fault
 word_at (Err e) = Err e
 word_at (Ok z) = if int_le (negsuc 2147483647) z && int_le z (pos 4294967295) then Ok (Word (cast_unsigned w32 z)) else Err OutOfRange
 
-abbrev pub made_of : Mnemonic → Result Operands Fault → Result Statement Fault
-made_of m (Ok o) = Ok (Word (word_of (insn_of m o)))
-made_of m (Err e) = Err e
+-- an instruction with the operands that were read
+abbrev pub made_of : Insn → Result Operands Fault → Result Statement Fault
+made_of named (Ok o) = Ok (Word (word_of (with_operands named o)))
+made_of named (Err e) = Err e
 
-abbrev pub insn_at : Labels → ℕ → Option Mnemonic → List ℕ → Result Statement Fault
+abbrev pub insn_at : Labels → ℕ → Option Insn → List ℕ → Result Statement Fault
 insn_at labels pc None text = Err UnknownName
-insn_at labels pc (Some m) text = made_of m (operands_at labels pc (slots_of m) text)
+insn_at labels pc (Some named) text = made_of named (operands_at labels pc (slots_of named) text)
 
 unfoldable pub named_at : Labels → ℕ → List ℕ → List ℕ → Result Statement Fault
 named_at labels pc name text =
     if bytes_eq name (codes ".org") then org_at (number_of (trimmed text))
     else (if bytes_eq name (codes ".word") then word_at (value_at labels (trimmed text))
-    else insn_at labels pc (mnemonic_named name) text)
+    else insn_at labels pc (insn_named name) text)
 
 unfoldable pub statement_at : Labels → ℕ → List ℕ → Result Statement Fault
 statement_at labels pc statement =

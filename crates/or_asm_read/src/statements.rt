@@ -4,7 +4,7 @@ ghost use Rattle.std.specs.Int.{cast_unsigned, w32};
 ghost use Rattle.or_asm_read.specs.Numbers.{number_of};
 ghost use Rattle.or_asm_read.specs.Operands.{value_at, operands_at};
 ghost use Rattle.or_asm_read.specs.Statements.{org_at, word_at, insn_at, made_of, named_at, statement_at, HasLowPlace};
-ghost use Rattle.or_asm_text.specs.Names.{mnemonic_named};
+ghost use Rattle.or_asm_text.specs.Names.{insn_named};
 ghost use Rattle.or_asm_text.specs.Slots.{slots_of};
 
 use crate::cuts::{name, operands, trim};
@@ -12,9 +12,9 @@ use crate::fault::Fault;
 use crate::labels::LabelTable;
 use crate::numbers::number;
 use crate::operands::{is_empty, operands_at, value_at};
-use or_asm_text::mnemonic::{Mnemonic, mnemonic_named};
-use or_asm_text::operands::{insn, slots};
-use or_isa::encode;
+use or_asm_text::names::insn_named;
+use or_asm_text::operands::{slots, with_operands};
+use or_isa::{Insn, encode};
 
 /// What a statement does: nothing, it sets the place, or it puts a word.
 #[derive(Clone, Copy)]
@@ -73,14 +73,14 @@ fn word_at(labels: &LabelTable, text: &[u8]) -> Result<Statement, Fault>
 fn insn_at(
     labels: &LabelTable,
     pc: u32,
-    mnemonic: Mnemonic,
+    named: &Insn,
     text: &[u8],
 ) -> Result<Statement, Fault>
-    ensures is { result ≡ made_of mnemonic (operands_at labels.now pc (slots_of mnemonic) text.now) }
+    ensures is { result ≡ made_of named.now (operands_at labels.now pc (slots_of named.now) text.now) }
     ensures low { HasLowPlace result }
 {
-    match operands_at(labels, pc, slots(mnemonic), text) {
-        Ok(operands) => Ok(Statement::Word(encode(&insn(mnemonic, &operands)))),
+    match operands_at(labels, pc, slots(named), text) {
+        Ok(operands) => Ok(Statement::Word(encode(&with_operands(named, &operands)))),
         Err(fault) => Err(fault),
     }
 }
@@ -91,11 +91,11 @@ fn instruction_at(
     name: &[u8],
     text: &[u8],
 ) -> Result<Statement, Fault>
-    ensures is { result ≡ insn_at labels.now pc (mnemonic_named name.now) text.now }
+    ensures is { result ≡ insn_at labels.now pc (insn_named name.now) text.now }
     ensures low { HasLowPlace result }
 {
-    match mnemonic_named(name) {
-        Some(mnemonic) => insn_at(labels, pc, mnemonic, text),
+    match insn_named(name) {
+        Some(named) => insn_at(labels, pc, &named, text),
         None => Err(Fault::UnknownName),
     }
 }
