@@ -70,12 +70,7 @@ fn word_at(labels: &LabelTable, text: &[u8]) -> Result<Statement, Fault>
 }
 
 #[tactic(auto, using(crate::proofs::Found::made_fits))]
-fn insn_at(
-    labels: &LabelTable,
-    pc: u32,
-    named: &Insn,
-    text: &[u8],
-) -> Result<Statement, Fault>
+fn insn_at(labels: &LabelTable, pc: u32, named: &Insn, text: &[u8]) -> Result<Statement, Fault>
     ensures is { result ≡ made_of named.now (operands_at labels.now pc (slots_of named.now) text.now) }
     ensures low { HasLowPlace result }
 {

@@ -19,7 +19,7 @@ use Rattle.or_isa.specs.declared.SyncKind.TheVariants.{Memory}
 use Rattle.or_isa.specs.Word.{word_of}
 use Rattle.or_isa.specs.Decode.{decode_of}
 use Rattle.or_isa.specs.Fields.{d_of, a_of, b_of, k_of, l_of, i_of, n_of, pages_of, split_k_of, split_i_of}
-use Rattle.or_asm_text.specs.Parts.{operands_with, with_operands, bare}
+use Rattle.or_asm_text.specs.Parts.{with_operands, bare}
 use Rattle.or_asm_text.specs.Names.{rows, name_of, insn_named}
 
 abbrev IsFound : Insn → Type 0

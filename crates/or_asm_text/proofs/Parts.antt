@@ -1,28 +1,10 @@
 -- An instruction as its name and its operands.
-use Rattle.std.proofs.Common.{◌≡◌, Bool, true, false, refl, ap, sym, subst, ◌∙◌, pos, Some, rules, arith}
+use Rattle.std.proofs.Common.{◌≡◌, refl, pos, rules, arith}
 use Rattle.or_isa.specs.declared.Insn.{Insn}
 use Rattle.or_isa.specs.declared.Insn.TheVariants as insn
-use Rattle.or_words.specs.declared.Width.{Width}
-use Rattle.or_words.specs.declared.Width.TheVariants.{Byte, Half, Word}
-use Rattle.or_words.specs.declared.ShiftKind.{ShiftKind}
-use Rattle.or_words.specs.declared.ShiftKind.TheVariants.{Left}
-use Rattle.or_words.specs.declared.CompareCode.{CompareCode}
-use Rattle.or_words.specs.declared.CompareCode.TheVariants.{Eq}
-use Rattle.or_words.specs.declared.MacKind.{MacKind}
-use Rattle.or_words.specs.declared.MacKind.TheVariants.{Plus}
-use Rattle.or_isa.specs.declared.ArithmeticKind.{ArithmeticKind}
-use Rattle.or_isa.specs.declared.ArithmeticKind.TheVariants as arithmetic
-use Rattle.or_isa.specs.declared.ImmediateKind.{ImmediateKind}
-use Rattle.or_isa.specs.declared.ImmediateKind.TheVariants as immediate
-use Rattle.or_isa.specs.declared.SyncKind.{SyncKind}
-use Rattle.or_isa.specs.declared.SyncKind.TheVariants.{Memory}
 use Rattle.or_isa.specs.Fits.{Fits}
-use Rattle.or_isa.specs.Word.{word_of}
-use Rattle.or_isa.specs.Decode.{decode_of}
-use Rattle.or_isa.specs.Fields.{d_of, a_of, b_of, k_of, l_of, i_of, n_of, pages_of, split_k_of, split_i_of}
 use Rattle.or_asm_text.specs.declared.operands.Operands.{Operands}
 use Rattle.or_asm_text.specs.Parts.{operands_with, operands_of, with_operands, bare}
-use Rattle.or_asm_text.specs.Names.{rows, name_of, insn_named}
 use Rattle.or_asm_text.specs.Slots.{slots_of}
 use Rattle.or_asm_text.specs.Ranges.{RegistersFit, ValueFits, filled}
 

@@ -107,8 +107,18 @@ impl Core {
                 self.accumulate(kind, self.register(a), self.register(b));
                 Ok(())
             }
-            Insn::Arithmetic { kind, d, a, b } => self.arithmetic(kind, d, self.register(a), self.register(b)),
-            Insn::Extend { width, signed, d, a } => {
+            Insn::Arithmetic { kind, d, a, b } => self.arithmetic(
+                kind,
+                d,
+                self.register(a),
+                self.register(b),
+            ),
+            Insn::Extend {
+                width,
+                signed,
+                d,
+                a,
+            } => {
                 self.put_extended(d, extension(width, signed), self.register(a));
                 Ok(())
             }

@@ -154,13 +154,13 @@ impl Core {
             return Err(Cause::Illegal);
         }
         match insn {
-            Insn::Load { width, signed, d, a, i } => self.load(
-                bus,
-                d,
+            Insn::Load {
                 width,
-                extension(width, signed),
-                self.address(a, i),
-            ),
+                signed,
+                d,
+                a,
+                i,
+            } => self.load(bus, d, width, extension(width, signed), self.address(a, i)),
             Insn::LoadLinked { d, a, i } => self.load_linked(bus, d, self.address(a, i)),
             Insn::Store { width, a, b, i } => self.store(
                 bus,

@@ -1,6 +1,6 @@
 -- An access on the bus makes no step by itself, and leaves the settings as they are.
-use Rattle.std.proofs.Common.{◌≡◌, ℕ, Bool, true, false, cond, refl}
-use Rattle.std.specs.Prelude.{Option, Some, None, Result, Ok, Err, IfOk}
+use Rattle.std.proofs.Common.{ℕ, Bool, true, false, refl}
+use Rattle.std.specs.Prelude.{Option, Some, None, Ok, Err}
 use Rattle.or_words.specs.declared.Width.{Width}
 use Rattle.or_words.specs.declared.Width.TheVariants.{Word}
 use Rattle.or_words.specs.declared.ExtendKind.{ExtendKind}
@@ -11,14 +11,14 @@ use Rattle.or_isa.specs.declared.Insn.TheVariants as insn
 use Rattle.or_parts.specs.declared.Right.TheVariants.{Load, Store}
 use Rattle.or_model.specs.declared.Route.{Route}
 use Rattle.or_model.specs.declared.Route.TheVariants.{Refused, At}
-use Rattle.or_model.specs.Core.{Core, set_register, next_instruction}
+use Rattle.or_model.specs.Core.{Core}
 use Rattle.or_model.specs.World.{World}
 use Rattle.or_model.specs.Bus.{Answer, load, store, load_linked, store_conditional}
 use Rattle.or_model.specs.Routes.{data_route}
-use Rattle.or_model.specs.DataAccess.{State, Outcome, with_value, loaded_by, loaded, with_store, stored_by, stored_value, linked_by, loaded_linked, with_success, conditional_by, stored_conditional}
+use Rattle.or_model.specs.DataAccess.{Outcome, with_value, loaded_by, loaded, with_store, stored_by, stored_value, linked_by, loaded_linked, with_success, conditional_by, stored_conditional}
 use Rattle.or_model.specs.Step.{executed_on_bus}
 use Rattle.or_model.specs.Counts.{SameCounts}
-use Rattle.or_model.proofs.Executes.{SameCounts-trans, SameCounts-refl, set_register-counts, next_instruction-counts}
+use Rattle.or_model.proofs.Executes.{SameCounts-trans, set_register-counts, next_instruction-counts}
 
 -- an access that was made left the counts as they were
 abbrev pub KeepsCounts : Core → Outcome → Type 0

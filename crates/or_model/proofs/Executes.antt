@@ -1,6 +1,6 @@
 -- An instruction makes no step by itself, and leaves the settings as they are.
 use Rattle.std.proofs.Common.{◌≡◌, ℕ, Bool, true, false, cond, refl, ◌∙◌}
-use Rattle.std.specs.Prelude.{Some, Result, Ok, Err, IfOk, slice_set, Option, ◌==◌, ◌-◌, ℤ}
+use Rattle.std.specs.Prelude.{Some, Ok, Err, IfOk, slice_set, Option, ◌==◌, ◌-◌, ℤ}
 use Rattle.or_words.specs.declared.ShiftKind.{ShiftKind}
 use Rattle.or_words.specs.declared.ExtendKind.{ExtendKind}
 use Rattle.or_words.specs.declared.CompareCode.{CompareCode}
@@ -17,9 +17,9 @@ use Rattle.or_parts.specs.Exceptions.{kept_status}
 use Rattle.or_parts.specs.Special.{SpecialRegisters, own_written, spr_route}
 use Rattle.or_model.specs.declared.Stop.{Stop}
 use Rattle.or_model.specs.declared.Stop.TheVariants.{Exit}
-use Rattle.or_model.specs.Core.{Core, register, set_register, next_instruction, branched, exception_return, exception_entry, own_registers, with_own_registers}
+use Rattle.or_model.specs.Core.{Core, register, set_register, next_instruction, branched, exception_return, exception_entry, own_registers}
 use Rattle.or_model.specs.SpecialAccess.{special_written, special_written_by}
-use Rattle.or_model.specs.Execute.{put, with_carry, with_overflow, unless_overflow, put_with_flags, put_with_overflow, put_with_carry, put_sum, put_difference, put_product, put_quotient, put_unsigned_quotient, put_unsigned_product, put_shifted, put_extended, put_lowest_one, put_highest_one, put_chosen, put_flag, put_comparison, put_accumulator, accumulator_read, branched_where, called, jumped, branched_on, after_nop, on_registers, put_arithmetic, executed}
+use Rattle.or_model.specs.Execute.{put, with_carry, put_with_flags, put_with_overflow, put_with_carry, put_sum, put_difference, put_product, put_quotient, put_unsigned_quotient, put_unsigned_product, put_shifted, put_extended, put_lowest_one, put_highest_one, put_chosen, put_flag, put_comparison, put_accumulator, accumulator_read, branched_where, called, jumped, branched_on, after_nop, on_registers, put_arithmetic, executed}
 use Rattle.or_model.specs.Counts.{SameSettings, SameCounts}
 
 pub SameSettings-trans : {old middle new : Core} → SameSettings old middle → SameSettings middle new → SameSettings old new

@@ -5,7 +5,7 @@ use Rattle.or_isa.specs.declared.Insn.TheVariants as insn
 use Rattle.or_isa.specs.Bus.{needs_bus_of}
 use Rattle.or_isa.specs.Decode.{decode_of}
 use Rattle.or_words.specs.declared.Width.{Width}
-use Rattle.or_words.specs.declared.Width.TheVariants.{Byte, Half, Word}
+use Rattle.or_words.specs.declared.Width.TheVariants.{Word}
 use Rattle.or_words.specs.declared.ExtendKind.{ExtendKind}
 use Rattle.or_words.specs.declared.ExtendKind.TheVariants.{Whole}
 use Rattle.or_parts.specs.declared.Cause.{Cause}
@@ -15,7 +15,6 @@ use Rattle.or_parts.specs.Bits.{has, plus, immediate}
 use Rattle.or_parts.specs.Memory.{value_at}
 use Rattle.or_parts.specs.Lines.{line_bytes}
 use Rattle.or_parts.specs.declared.Cause.TheVariants.{Illegal}
-use Rattle.or_words.specs.declared.ExtendKind.TheVariants.{HalfSigned, ByteSigned, HalfZero, ByteZero}
 use Rattle.or_model.specs.Execute.{extension}
 use Rattle.or_model.specs.Core.{register}
 use Rattle.std.specs.Prelude.{◌==◌, ◌&&◌, not}

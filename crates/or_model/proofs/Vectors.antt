@@ -1,6 +1,5 @@
 -- Worked examples: the definitions give these values by computation.
-use Rattle.std.specs.Prelude.{◌≡◌, ℕ, ◌/◌, ◌%◌, ◌++◌, Bool, true, false, List, [], ◌∷◌, Option, Some, None, refl, replicate, slice_set, zero, suc}
-use Rattle.or_words.specs.declared.Config.{Config}
+use Rattle.std.specs.Prelude.{◌≡◌, ℕ, ◌/◌, ◌%◌, ◌++◌, Bool, true, false, List, [], ◌∷◌, Some, None, refl, replicate, slice_set, zero, suc}
 use Rattle.or_words.specs.declared.Width.TheVariants.{Word}
 use Rattle.or_isa.specs.Decode.{decode_of}
 use Rattle.or_isa.specs.Fields.{a_of, b_of, d_of, i_of, k_of, n_of, split_i_of, split_k_of}
@@ -10,9 +9,8 @@ use Rattle.or_parts.specs.Translation.{translation}
 use Rattle.or_parts.specs.Special.{spr_route, own_written}
 use Rattle.or_parts.specs.Uart.{reset_uart, uart_line}
 use Rattle.or_parts.specs.Lines.{held_word, line_filled}
-use Rattle.or_model.specs.declared.Stop.{Stop}
 use Rattle.or_model.specs.declared.Stop.TheVariants.{Budget}
-use Rattle.or_model.specs.Turn.{Begun, begun_within, turn_begun, turn_ended, steps_alone, turn}
+use Rattle.or_model.specs.Turn.{begun_within, turn_begun, turn_ended, steps_alone, turn}
 use Rattle.or_model.specs.Core.{Core, register, reset_core, next_instruction, branched, exception_entry, exception_return}
 use Rattle.or_model.specs.World.{World, new_world, after_load, after_store, marked, unmarked, stands}
 use Rattle.or_model.specs.Bus.{fetch, region_of, load, store, load_linked, store_conditional, interrupt_lines}

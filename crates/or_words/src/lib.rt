@@ -301,7 +301,10 @@ mod tests {
 
     #[test]
     fn bits(rt: HostRuntime) {
-        assert_eq!(rt; shift(ShiftKind::RightArithmetic, 0x8000_0000, 33), 0xc000_0000);
+        assert_eq!(rt;
+            shift(ShiftKind::RightArithmetic, 0x8000_0000, 33),
+            0xc000_0000
+        );
         assert_eq!(rt; shift(ShiftKind::RotateRight, 0x8000_0001, 1), 0xc000_0000);
         assert_eq!(rt; extend(ExtendKind::ByteSigned, 0x1234_5680), 0xffff_ff80);
         assert_eq!(rt; (ff1(0), ff1(12), fl1(0), fl1(12)), (0, 3, 0, 4));
