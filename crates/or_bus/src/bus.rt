@@ -128,7 +128,7 @@ impl Bus {
             cores: self.cores,
             ram,
             caches,
-            reservations: self.reservations,
+            reservations: self.reservations.copy(),
             counts: self.counts,
             writes: self.writes,
             uart,

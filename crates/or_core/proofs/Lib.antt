@@ -1,6 +1,7 @@
 pub mod Accesses
 pub mod Aligned
 pub mod Begins
+pub mod Nexts
 pub mod Pages
 pub mod Progress
 pub mod Traces

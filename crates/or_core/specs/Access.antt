@@ -59,9 +59,13 @@ access_at core world kind (At pa cached) = if in_ram world pa && is_made core wo
 abbrev pub access_by : Core → World → MemoryOperand → Option Access
 access_by core world memory_operand = access_at core world memory_operand.kind (data_route core (plus (register core memory_operand.base) (immediate memory_operand.offset)) memory_operand.width (right_of memory_operand.kind))
 
+-- the access of an instruction
+abbrev pub access_of_insn : Core → World → Option Insn → Option Access
+access_of_insn core world insn = option_and_then (λ found. option_and_then (access_by core world) (memory_operand found)) insn
+
 -- the access of a word as an instruction
 unfoldable pub access_of_word : Core → World → ℕ → Option Access
-access_of_word core world word = option_and_then (λ insn. option_and_then (access_by core world) (memory_operand insn)) (decode_of word)
+access_of_word core world word = access_of_insn core world (decode_of word)
 
 -- the word that is fetched: of a held instruction line, or what the bus answers
 abbrev pub word_fetched : World → ℕ → Bool → Option ℕ

@@ -1,3 +1,4 @@
 pub mod Follows
 pub mod PrivateStep
 pub mod Access
+pub mod Next

@@ -4,6 +4,7 @@
 
 mod data_access;
 mod execute;
+mod next;
 mod private;
 mod results;
 mod special;

@@ -151,7 +151,7 @@ impl Core {
             sprs: self.sprs,
             data_tlb: self.data_tlb,
             insn_tlb: self.insn_tlb,
-            icache: self.icache,
+            icache: self.icache.copy(),
             tick: self.tick,
             pic: self.pic,
             linked: self.linked,

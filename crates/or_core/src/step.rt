@@ -6,15 +6,16 @@ ghost use Rattle.or_isa.specs.Fits.{Fits};
 ghost use Rattle.or_parts.specs.Bits.{plus, immediate};
 ghost use Rattle.or_model.specs.Core.{exception_entry, register};
 ghost use Rattle.or_model.specs.World.{World};
-ghost use Rattle.or_model.specs.Routes.{fetch_route, cached_instruction};
-ghost use Rattle.or_model.specs.Step.{with_step_counted, is_misplaced, spr_number, outcome, outcome_on_bus, step_off_bus, step_on_bus, step_by_word, step_unheld, step};
+ghost use Rattle.or_model.specs.Routes.{fetch_route};
+ghost use Rattle.or_model.specs.Step.{with_step_counted, is_misplaced, spr_number, outcome, outcome_on_bus, step_off_bus, step_on_bus, step_by_insn, step_by_word, step_unheld, step};
 ghost use Rattle.or_bus.specs.Represents.{Represents};
 ghost use Rattle.or_model.specs.Counts.{SameCounts, SameSettings};
 ghost use Rattle.or_core.specs.Follows.{IsState, IsOutcome, IsAlignedBy, KeepsBus};
-ghost use Rattle.or_core.specs.Access.{memory_operand, access_by, access_of_word, word_fetched, step_access};
+ghost use Rattle.or_core.specs.Access.{memory_operand, access_by, access_of_insn, access_of_word, word_fetched, step_access};
 
 use crate::data_access::UNCACHED;
 use crate::execute::extension;
+use crate::next::Next;
 use crate::state::{Core, has};
 use or_bus::Bus;
 use or_isa::{Insn, decode, needs_bus};
@@ -52,15 +53,6 @@ impl Core {
             Err(TlbFault::Miss) => Route::Refused(Cause::InsnMiss(pc)),
             Err(TlbFault::PageFault) => Route::Refused(Cause::InsnPageFault(pc)),
         }
-    }
-
-    // The word of a held instruction line, where the fetch is cached.
-    #[inline]
-    pub(crate) fn cached_instruction(&self, pa: u32, cached: bool) -> Option<u32>
-        requires { pa % 4 ≡ 0 }
-        ensures { result ≡ cached_instruction self.now pa cached }
-    {
-        if cached { self.icache.look(pa) } else { None }
     }
 
     // Whether an instruction may not stand where it does, or not in this mode.
@@ -210,6 +202,31 @@ impl Core {
         }
     }
 
+    // One step by an instruction, or by a word that is none.
+    #[inline(always)]
+    fn step_by_insn(&mut self, bus: &mut Bus, insn: Option<Insn>)
+        requires fits { ForSome insn Fits }
+        requires room { self.old.steps < self.old.budget }
+        requires known { self.old.number < bus.old.cores }
+        requires spare { 0 < bus.old.spare }
+        ensures state { (world : World) → Represents bus.old world → IsState (step_by_insn self.old world insn) self.new bus.new }
+        ensures settings { SameSettings self.old self.new }
+        ensures steps { self.new.steps ≡ self.old.steps + 1 }
+        ensures access { (world : World) → Represents bus.old world → bus.new.last ≡ option_or (access_of_insn self.old world insn) bus.old.last }
+        ensures bus { KeepsBus bus.old bus.new }
+    {
+        match insn {
+            Some(insn) => {
+                if needs_bus(&insn, self.spr_number(&insn)) {
+                    self.step_on_bus(bus, insn)
+                } else {
+                    self.step_off_bus(Some(insn))
+                }
+            }
+            None => self.step_off_bus(None),
+        }
+    }
+
     // One step by a word that was fetched.
     #[tactic(auto, unfolding(or_model::specs::Step::step_by_word, crate::specs::Access::access_of_word))]
     fn step_by_word(&mut self, bus: &mut Bus, word: u32)
@@ -222,16 +239,7 @@ impl Core {
         ensures access { (world : World) → Represents bus.old world → bus.new.last ≡ option_or (access_of_word self.old world word) bus.old.last }
         ensures bus { KeepsBus bus.old bus.new }
     {
-        match decode(word) {
-            Some(insn) => {
-                if needs_bus(&insn, self.spr_number(&insn)) {
-                    self.step_on_bus(bus, insn)
-                } else {
-                    self.step_off_bus(Some(insn))
-                }
-            }
-            None => self.step_off_bus(None),
-        }
+        self.step_by_insn(bus, decode(word));
     }
 
     // One step by a word that no held line has.
@@ -257,7 +265,6 @@ impl Core {
     }
 
     /// Makes one step: a retired instruction, or an exception entry. The steps rise by one.
-    #[tactic(auto, unfolding(or_model::specs::Step::step, crate::specs::Access::step_access))]
     pub fn step(&mut self, bus: &mut Bus)
         requires running { self.old.stop ≡ None }
         requires known { self.old.number < bus.old.cores }
@@ -269,15 +276,10 @@ impl Core {
         ensures bus { KeepsBus bus.old bus.new }
     {
         let _ = &self.steps;
-        match self.due_interrupt() {
-            Some(cause) => self.enter_step(cause),
-            None => match self.fetch_route() {
-                Route::Refused(cause) => self.enter_step(cause),
-                Route::At(pa, cached) => match self.cached_instruction(pa, cached) {
-                    Some(word) => self.step_by_word(bus, word),
-                    None => self.step_unheld(bus, pa, cached),
-                },
-            },
+        match self.next() {
+            Next::Enters(cause) => self.enter_step(cause),
+            Next::Held(insn) => self.step_by_insn(bus, insn),
+            Next::Fetched(pa, cached) => self.step_unheld(bus, pa, cached),
         }
     }
 }

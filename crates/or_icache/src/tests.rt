@@ -1,3 +1,5 @@
+ghost use Rattle.std.specs.Prelude.{◌≡◌, ◌%◌};
+
 use super::*;
 
 // A line whose words are all 15000000 plus the same low byte.
@@ -10,19 +12,30 @@ fn words(low: u8) -> [u8; 32] {
     bytes
 }
 
+// The number of the l.nop at an address, where its line is held; 65536 for another instruction.
+fn nop_at(cache: &ICache, pa: u32) -> Option<u32>
+    requires { pa % 4 ≡ 0 }
+{
+    match cache.look(pa) {
+        Some(Some(Insn::Nop { k })) => Some(k),
+        Some(_) => Some(65536),
+        None => None,
+    }
+}
+
 #[test]
 fn old_until_dropped(rt: HostRuntime) {
     let mut cache = ICache::empty();
-    assert_eq!(rt; cache.look(0x1004), None);
+    assert_eq!(rt; nop_at(&cache, 0x1004), None);
     cache.fill(0x1010, &words(1));
     assert_eq!(rt;
-        (cache.look(0x1000), cache.look(0x101C), cache.look(0x1020)),
-        (Some(0x1500_0001), Some(0x1500_0001), None)
+        (nop_at(&cache, 0x1000), nop_at(&cache, 0x101C), nop_at(&cache, 0x1020)),
+        (Some(1), Some(1), None)
     );
     cache.drop_line(0x1000);
-    assert_eq!(rt; cache.look(0x1004), None);
+    assert_eq!(rt; nop_at(&cache, 0x1004), None);
     cache.fill(0x1004, &words(2));
-    assert_eq!(rt; cache.look(0x1004), Some(0x1500_0002));
+    assert_eq!(rt; nop_at(&cache, 0x1004), Some(2));
 }
 
 #[test]
@@ -34,14 +47,14 @@ fn neighbours(rt: HostRuntime) {
     cache.drop_line(0x1020);
     cache.drop_line(0x2000);
     assert_eq!(rt;
-        (cache.look(0x1000), cache.look(0x1020)),
-        (Some(0x1500_0001), None)
+        (nop_at(&cache, 0x1000), nop_at(&cache, 0x1020)),
+        (Some(1), None)
     );
     // another line of its index takes its place
     cache.fill(0x2000, &words(3));
     assert_eq!(rt;
-        (cache.look(0x1000), cache.look(0x2000)),
-        (None, Some(0x1500_0003))
+        (nop_at(&cache, 0x1000), nop_at(&cache, 0x2000)),
+        (None, Some(3))
     );
 }
 
@@ -54,8 +67,19 @@ fn big_endian(rt: HostRuntime) {
     bytes[7] = 0x01;
     let mut cache = ICache::empty();
     cache.fill(0xFFFF_FFE0, &bytes);
-    assert_eq!(rt;
-        (cache.look(0xFFFF_FFE4), cache.look(0xFFFF_FFFC)),
-        (Some(0x1860_9001), Some(0))
-    );
+    assert!(rt; matches!(cache.look(0xFFFF_FFE4), Some(Some(Insn::MoveHigh { d: 3, k: 0x9001 }))));
+    assert!(rt; matches!(cache.look(0xFFFF_FFFC), Some(Some(Insn::Jump { link: false, n: 0 }))));
+}
+
+#[test]
+fn decoded_anew(rt: HostRuntime) {
+    let mut cache = ICache::empty();
+    cache.fill(0x1000, &words(1));
+    // a line over it, at the same address and at another
+    cache.fill(0x1000, &words(2));
+    assert_eq!(rt; nop_at(&cache, 0x1008), Some(2));
+    cache.fill(0x3000, &[0xFF; 32]);
+    assert!(rt; matches!(cache.look(0x3008), Some(None)), "no instruction");
+    let again = cache.copy();
+    assert!(rt; matches!(again.look(0x301C), Some(None)));
 }

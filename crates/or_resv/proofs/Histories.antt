@@ -64,3 +64,10 @@ tracks-write slots writes marks core word len is = record {
       ap (is_for at) (get_or-map (after_write word) slots c None None (omega arith))
       ∙ slot-wrote writes core word (mark_of marks c) (slice_index_or slots c None) (is.reached c) (λ w. is.stands c w h) at;
 }
+
+-- where no slot is for a word, a write changes none
+pub map-none : (word : ℕ) (slots : List (Option ℕ)) → ((core : ℕ) → slice_index_or slots core None ≡ None) → map (after_write word) slots ≡ slots
+map-none word [] none = refl
+map-none word (slot ∷ slots) none =
+    let first : after_write word slot ≡ slot = rw (none 0) refl in
+    rw (first, map-none word slots (λ core. none (suc core))) refl

@@ -1,7 +1,7 @@
 //! Reservations of words, one for each core, as load-linked and store-conditional instructions make and use them.
 #![tactic(auto)]
 
-ghost use Rattle.std.specs.Prelude.{◌≡◌, ℕ, ◌<◌, ◌++◌, ◌∷◌, [], List, Option, map, Some, None, length, replicate, slice_set};
+ghost use Rattle.std.specs.Prelude.{◌≡◌, ℕ, ◌<◌, ◌++◌, ◌∷◌, [], List, Option, map, Some, None, length, replicate, slice_set, slice_index_or, IsTrue};
 ghost use Rattle.or_parts.specs.Reservation.{Mark, stands_by};
 ghost use Rattle.or_resv.specs.Slots.{is_reserved, after_write};
 ghost use Rattle.or_resv.specs.Tracks.{Tracks, mark_of};
@@ -9,21 +9,21 @@ ghost use Rattle.or_resv.specs.Tracks.{Tracks, mark_of};
 use std::marker::Model;
 
 /// The address of the word that each of 8 cores has reserved, if it has one.
-#[derive(Clone, Copy)]
+#[derive(Drop)]
 pub struct Reservations {
     slots: [Option<u32>; 8],
+    // Where none stands a write looks at no slot.
+    some_stand: bool,
 }
 
 impl Model for Reservations {
-    ghost use Rattle.std.specs.Prelude.{◌≡◌, ℕ, List, Option, length};
+    ghost use Rattle.std.specs.Prelude.{◌≡◌, ℕ, List, Option, None, false, length, slice_index_or};
 
     ghost Value = { List (Option ℕ) };
 
     ghost view = { λ a. a.slots };
 
-    ghost invariant = { λ a. length a.slots ≡ 8 };
-
-    ghost inverse = { λ slots. record { slots = slots } };
+    ghost invariant = { λ a. (length a.slots ≡ 8) × (a.some_stand ≡ false → (core : ℕ) → slice_index_or a.slots core None ≡ None) };
 }
 
 impl Reservations {
@@ -32,7 +32,20 @@ impl Reservations {
         ensures value { result ≡ replicate 8 None }
         ensures tracks { (writes : List (ℕ × ℕ)) (cores : ℕ) → Tracks result writes (replicate cores None) }
     {
-        Reservations { slots: [None; 8] }
+        Reservations {
+            slots: [None; 8],
+            some_stand: false,
+        }
+    }
+
+    /// The same reservations once more.
+    pub fn copy(&self) -> Reservations
+        ensures { result ≡ self.now }
+    {
+        Reservations {
+            slots: self.slots,
+            some_stand: self.some_stand,
+        }
     }
 
     /// The core reserves a word, in the place of whichever it had reserved.
@@ -43,6 +56,7 @@ impl Reservations {
         ensures tracks { (writes : List (ℕ × ℕ)) (marks : List (Option Mark)) → core < length marks → Tracks self.old writes marks → Tracks self.new writes (slice_set marks core (Some (word, length writes))) }
     {
         self.slots[core as usize] = Some(word);
+        self.some_stand = true;
     }
 
     /// The core's reservation ends.
@@ -61,7 +75,10 @@ impl Reservations {
         ensures value { self.new ≡ map (after_write word) self.old }
         ensures tracks { (writes : List (ℕ × ℕ)) (marks : List (Option Mark)) (core : ℕ) → Tracks self.old writes marks → Tracks self.new (writes ++ (core, word) ∷ []) marks }
     {
-        clear_word(&mut self.slots, word);
+        if self.some_stand {
+            clear_word(&mut self.slots, word);
+            self.some_stand = !none_stands(&self.slots);
+        }
     }
 
     /// Whether the core's reservation of a word stands.
@@ -90,7 +107,6 @@ fn after_write(word: u32, slot: Option<u32>) -> Option<u32>
 }
 
 // Ends each reservation of a word.
-#[inline]
 #[tactic(auto, using(std::proofs::lemmas::List::Edits::map_over_more))]
 fn clear_word(slots: &mut [Option<u32>], word: u32)
     ensures { slots.new ≡ map (after_write word) slots.old }
@@ -99,6 +115,13 @@ fn clear_word(slots: &mut [Option<u32>], word: u32)
         let slot = slots[place];
         slots[place] = after_write(word, slot);
     }
+}
+
+// Whether no slot has a reservation.
+fn none_stands(slots: &[Option<u32>]) -> bool
+    ensures { IsTrue result → (core : ℕ) → core < length slots.now → slice_index_or slots.now core None ≡ None }
+{
+    slots.iter().all(|slot| slot.is_none())
 }
 
 #[cfg(test)]

@@ -1,0 +1,28 @@
+-- A held word and the instruction beside it.
+use Rattle.std.proofs.Common.{◌≡◌, ℕ, Bool, true, false, Option, Some, None, refl, ap, sym, subst}
+use Rattle.std.specs.Prelude.{not, option_map, option_and_then}
+use Rattle.std.specs.Option.{option_or}
+use Rattle.or_isa.specs.declared.Insn.{Insn}
+use Rattle.or_isa.specs.Decode.{decode_of}
+use Rattle.or_model.specs.Core.{Core}
+use Rattle.or_model.specs.World.{World}
+use Rattle.or_model.specs.Step.{step_by_held, step_by_insn, step_by_word, is_private_word, wants_bus}
+use Rattle.or_core.specs.Access.{access_of_insn, access_of_word, word_fetched}
+
+-- what a held word says is what the instruction beside it says
+pub record IsBeside (core : Core) (pa : ℕ) (cached : Bool) (word : Option ℕ) (insn : Option Insn) : Type 0 where
+  pub alone : is_private_word core word ≡ not (wants_bus core insn)
+  pub state : (world : World) → step_by_held core world pa cached word ≡ step_by_insn core world insn
+  pub access : (world : World) → option_and_then (access_of_word core world) (option_or word (word_fetched world pa cached)) ≡ access_of_insn core world insn
+
+pub beside : (core : Core) (pa : ℕ) (cached : Bool) (word : Option ℕ) (insn : Option Insn) → option_map decode_of word ≡ Some insn → IsBeside core pa cached word insn
+unfolding step_by_word access_of_word
+beside core pa cached None insn is = absurd (none_is_some is)
+  where
+    none_is_some : {X : Type 0} {x : X} → None ≡ Some x → ⊥
+    none_is_some e = cc
+beside core pa cached (Some word) insn is =
+    subst (IsBeside core pa cached (Some word)) (same is) (record { alone = refl; state = λ world. refl; access = λ world. refl })
+  where
+    same : {X : Type 0} {x y : X} → Some x ≡ Some y → x ≡ y
+    same e = cc
