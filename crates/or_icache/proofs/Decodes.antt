@@ -1,15 +1,12 @@
 -- What stands beside the lines once one is filled or dropped.
-use Rattle.std.proofs.Common.{◌≡◌, ◌≢◌, ℕ, ◌+◌, ◌*◌, ◌/◌, ◌%◌, ◌<◌, ◌≤◌, Bool, true, false, List, Option, Some, None, length, arith, refl, ap, sym, ◌∙◌, get_or, subst, replicate, rules}
-use Rattle.std.specs.Prelude.{slice_index_or, slice_set, ◌==◌, IfSome}
-use Rattle.std.specs.Option.{ForSome}
+use Rattle.std.proofs.Common.{◌≡◌, ◌≢◌, ℕ, ◌+◌, ◌*◌, ◌/◌, ◌%◌, ◌<◌, Bool, true, false, List, Option, Some, None, length, arith, refl, ap, sym, ◌∙◌, subst, replicate}
+use Rattle.std.specs.Prelude.{slice_index_or, slice_set, ◌==◌}
 use Rattle.std.proofs.lemmas.Bool.Decides.{nat_tests}
 use Rattle.std.proofs.lemmas.List.{get_or-set_same, get_or-set_other, get_or-replicate}
-use Rattle.or_words.specs.declared.Width.TheVariants.{Word}
 use Rattle.or_isa.specs.declared.Insn.{Insn}
-use Rattle.or_isa.specs.Fits.{Fits}
 use Rattle.or_parts.specs.declared.Line.{Line}
-use Rattle.or_parts.specs.Lines.{index_of, line_of, line_at_index, held_word}
-use Rattle.or_icache.specs.Decoded.{IsDecoded, AreDecoded, held_insn}
+use Rattle.or_parts.specs.Lines.{index_of, line_at_index}
+use Rattle.or_icache.specs.Decoded.{IsDecoded, AreDecoded}
 
 none_is_some : {X : Type 0} {x : X} → None ≡ Some x → ⊥
 none_is_some e = cc
@@ -28,12 +25,12 @@ decoded-more insns bytes index k insn within this before j below = by_place (j =
     by_place true test =
         let same : j ≡ k = grind (arith, nat_tests) in
         let read : slice_index_or (slice_set insns (index * 8 + k) insn) (index * 8 + j) None ≡ insn =
-            ap (λ n. slice_index_or (slice_set insns (index * 8 + k) insn) (index * 8 + n) None) same ∙ get_or-set_same insns (index * 8 + k) insn None within in
+        ap (λ n. slice_index_or (slice_set insns (index * 8 + k) insn) (index * 8 + n) None) same ∙ get_or-set_same insns (index * 8 + k) insn None within in
         rw (read, same) this
     by_place false test =
         let other : j ≢ k = grind (arith, nat_tests) in
         let read : slice_index_or (slice_set insns (index * 8 + k) insn) (index * 8 + j) None ≡ slice_index_or insns (index * 8 + j) None =
-            get_or-set_other insns (index * 8 + k) (index * 8 + j) insn None (omega arith) in
+        get_or-set_other insns (index * 8 + k) (index * 8 + j) insn None (omega arith) in
         rw read (before j (omega arith))
 
 -- a line less
@@ -57,17 +54,18 @@ decoded-filled lines old new index line within decoded beside elsewhere place th
   where
     same_line : {x y : Line} → Some x ≡ Some y → x ≡ y
     same_line e = cc
+
     by_place : (here : Bool) → (place / 8 == index) ≡ here → IsDecoded there.bytes (place % 8 * 4) (slice_index_or new place None)
     by_place true test =
         let same : place / 8 ≡ index = grind (arith, nat_tests) in
         let at : index * 8 + place % 8 ≡ place = omega arith in
         let that : line ≡ there = same_line (sym (ap (λ j. slice_index_or (slice_set lines index (Some line)) j None) same ∙ get_or-set_same lines index (Some line) None within) ∙ is) in
         subst (λ l. IsDecoded l.bytes (place % 8 * 4) (slice_index_or new place None)) that
-          (subst (λ p. IsDecoded line.bytes (place % 8 * 4) (slice_index_or new p None)) at (beside (place % 8) (omega arith)))
+        (subst (λ p. IsDecoded line.bytes (place % 8 * 4) (slice_index_or new p None)) at (beside (place % 8) (omega arith)))
     by_place false test =
         let other : place / 8 ≢ index = grind (arith, nat_tests) in
         let before : IsDecoded there.bytes (place % 8 * 4) (slice_index_or old place None) =
-            decoded place there inside (sym (get_or-set_other lines index (place / 8) (Some line) None other) ∙ is) in
+        decoded place there inside (sym (get_or-set_other lines index (place / 8) (Some line) None other) ∙ is) in
         subst (λ i. IsDecoded there.bytes (place % 8 * 4) i) (sym (elsewhere place other)) before
 
 -- what stands beside a word of a held line
@@ -77,4 +75,4 @@ decoded-held lines insns pa line decoded aligned is =
     let index : pa / 4 % 1024 / 8 ≡ index_of pa = omega arith in
     let place : pa / 4 % 1024 % 8 * 4 ≡ pa % 32 = omega arith in
     subst (λ at. IsDecoded line.bytes at (slice_index_or insns (pa / 4 % 1024) None)) place
-      (decoded (pa / 4 % 1024) line (omega arith) (ap (line_at_index lines) index ∙ is))
+    (decoded (pa / 4 % 1024) line (omega arith) (ap (line_at_index lines) index ∙ is))

@@ -29,7 +29,11 @@ fn old_until_dropped(rt: HostRuntime) {
     assert_eq!(rt; nop_at(&cache, 0x1004), None);
     cache.fill(0x1010, &words(1));
     assert_eq!(rt;
-        (nop_at(&cache, 0x1000), nop_at(&cache, 0x101C), nop_at(&cache, 0x1020)),
+        (
+            nop_at(&cache, 0x1000),
+            nop_at(&cache, 0x101C),
+            nop_at(&cache, 0x1020)
+        ),
         (Some(1), Some(1), None)
     );
     cache.drop_line(0x1000);
@@ -67,8 +71,18 @@ fn big_endian(rt: HostRuntime) {
     bytes[7] = 0x01;
     let mut cache = ICache::empty();
     cache.fill(0xFFFF_FFE0, &bytes);
-    assert!(rt; matches!(cache.look(0xFFFF_FFE4), Some(Some(Insn::MoveHigh { d: 3, k: 0x9001 }))));
-    assert!(rt; matches!(cache.look(0xFFFF_FFFC), Some(Some(Insn::Jump { link: false, n: 0 }))));
+    assert!(rt;
+        matches!(
+            cache.look(0xFFFF_FFE4),
+            Some(Some(Insn::MoveHigh { d: 3, k: 0x9001 }))
+        )
+    );
+    assert!(rt;
+        matches!(
+            cache.look(0xFFFF_FFFC),
+            Some(Some(Insn::Jump { link: false, n: 0 }))
+        )
+    );
 }
 
 #[test]

@@ -13,3 +13,4 @@ pub mod Joining
 pub mod Removals
 pub mod Units
 pub mod Moments
+pub mod Longer

@@ -1,4 +1,4 @@
-use Rattle.std.proofs.Common.{◌<◌, length, arith}
+use Rattle.std.proofs.Common.{arith}
 use Rattle.or_icache.proofs.Decodes.{decoded-dropped}
 use Rattle.or_icache.proofs.ICache.drop_line.Goals as goal
 

@@ -1,6 +1,5 @@
-use Rattle.std.proofs.Common.{◌≡◌, Some, arith, rules, ◌∙◌, ap, sym}
-use Rattle.or_parts.specs.Lines.{index_of, line_at_index, held_word}
-use Rattle.or_icache.specs.Decoded.{held_insn}
+use Rattle.std.proofs.Common.{arith, rules}
+use Rattle.or_parts.specs.Lines.{held_word}
 use Rattle.or_icache.proofs.Decodes.{decoded-held}
 use Rattle.or_icache.proofs.ICache.look.Goals as goal
 
