@@ -20,8 +20,11 @@ use std::sync::Wait;
 use std::thread;
 use std::thread::Threads;
 
-/// So many looks outlast the turns of all other cores, so that who waits seldom sleeps; a sleep and a wake cost far more than a turn.
-const LOOKS: u32 = 4000;
+/// So often tries who waits for the bus, before it sleeps, where each thread has a processor.
+const LOOKS: u32 = 1000;
+
+/// And so often where threads share a processor: trying for long takes the processor from the one that has the bus.
+const FEW_LOOKS: u32 = 300;
 
 // The most turns of a stay that passes this gate.
 fn most_turns<G: Gate>(stay: u32, gate: &G) -> u32
@@ -89,17 +92,17 @@ fn join_all(shared: &Shared, mut units: Vec<Unit>) -> Unit
     last
 }
 
-// How often who waits for the bus looks for its turn before it sleeps: not at all where threads share a processor.
+// How often who waits for the bus tries to take it before it sleeps.
 fn looks_for<R: Threads>(rt: &R, threads: usize) -> u32 {
     match thread::available_parallelism(rt) {
         Ok(processors) => {
             if processors.get() >= threads {
                 LOOKS
             } else {
-                0
+                FEW_LOOKS
             }
         }
-        Err(_) => 0,
+        Err(_) => FEW_LOOKS,
     }
 }
 

@@ -13,4 +13,3 @@ pub mod Joining
 pub mod Removals
 pub mod Units
 pub mod Moments
-pub mod Longer

@@ -15,7 +15,7 @@ use Rattle.or_turn.specs.declared.view.Transfer.{Transfer}
 use Rattle.or_turn.specs.declared.view.Stage.TheVariants.{Idle}
 use Rattle.or_turn.specs.declared.view.View.{View}
 use Rattle.or_turn.specs.Schedules.{first_board, board_of, IsDefined, count, core_at}
-use Rattle.or_turn.specs.Told.{SeatState, TakesBus, waiting_view, holding_view, done_view}
+use Rattle.or_turn.specs.Told.{SeatState, TakesBus, holding_view, done_view}
 use Rattle.or_turn.specs.Shown.{core_of, only_of, begun_core, HasBegun, Turned}
 use Rattle.or_turn.specs.Stays.{HasBus, HasBusBegun, MadeTurns}
 use Rattle.or_turn.proofs.Replays.{MayTurn, turned_board, turned_here, snoc, count_append}
@@ -139,7 +139,7 @@ module _ (st : Settings) (turns : List ℕ) (c : ℕ) (core : Core) (follows : B
 pub one_turn_more : (st : Settings) (turns : List ℕ) (c : ℕ) (made : ℕ) (done : Core) (new : Transfer) → HasBus st ((turns ++ replicate made c) ++ c ∷ []) c done new → HasBus st (turns ++ replicate (made + 1) c) c done new
 one_turn_more st turns c made done new has = subst (λ (l : List ℕ). HasBus st l c done new) (append_assoc turns (replicate made c) (c ∷ []) ∙ ap (λ (l : List ℕ). turns ++ l) (replicate_more made c)) has
 
-module _ (v : View) (t : ℕ) (follows : Bool) (has : HasBegun v follows) (m : SeatState) (tk : TakesBus (waiting_view v t) m) where
+module _ (v : View) (follows : Bool) (has : HasBegun v follows) (m : SeatState) (tk : TakesBus v m) where
   abbrev own : ℕ
   own = only_of v
 
@@ -168,7 +168,7 @@ module _ (v : View) (t : ℕ) (follows : Bool) (has : HasBegun v follows) (m : S
     turns = replicate stay.made own
 
     abbrev pub after : View
-    after = done_view (holding_view (waiting_view v t) tk.schedule) new.schedule.items
+    after = done_view (holding_view v tk.schedule) new.schedule.items
 
     pub now_seen : after.seen ≡ tk.schedule ++ turns
     now_seen = stay.has.holds.schedule

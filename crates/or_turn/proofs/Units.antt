@@ -1,10 +1,12 @@
 -- The cores of two units that are joined.
-use Rattle.std.proofs.Common.{◌≡◌, ℕ, ◌<◌, ◌≤◌, List, [], ◌∷◌, ◌++◌, length, map, get_or, zero, suc, refl, sym, ap, ◌∙◌, arith}
+use Rattle.std.proofs.Common.{◌≡◌, ℕ, ◌<◌, ◌≤◌, List, [], ◌∷◌, ◌++◌, length, map, get_or, zero, suc, refl, sym, ap, ◌∙◌, subst, arith, ◌+◌}
 use mathlib.Core.Logic.{dite}
 use mathlib.Core.List.{map-append}
 use mathlib.Core.Option.{some, some-injective, some-ne-none}
 use lib.ListN.{length-map, get_elem?}
-use native.Mathlib.Decide.{ℕ_discrete}
+use native.Mathlib.Decide.{ℕ_discrete, dec_lt}
+use Rattle.std.proofs.Math.ListN.{get_or-append}
+use Rattle.std.proofs.Math.Seq.{get_or-append_seam}
 use Rattle.or_turn.specs.declared.view.Settings.{Settings}
 use Rattle.or_model.specs.Core.{Core}
 use Rattle.or_turn.specs.Schedules.{count, core_at, board_of}
@@ -92,3 +94,11 @@ module _ (v : View) (transfer : Transfer) (shut : LastKnows v transfer) (all : (
       got_inside [] c core found = absurd (let b : ⊥ = cc in b)
       got_inside (first ∷ cores) zero core found = omega arith
       got_inside (first ∷ cores) (suc c) core found = let i = got_inside cores c core found in omega arith
+
+-- what is true of each of these by its number, and of one more
+pub each_pushed : {X : Type 0} (P : ℕ → X → Type 0) (xs ys : List X) (u : X) (many : ℕ) → ys ≡ xs ++ u ∷ [] → length xs ≡ many → ((n : ℕ) (d : X) → n < many → P n (get_or xs n d)) → P many u
+    → (n : ℕ) (d : X) → n < many + 1 → P n (get_or ys n d)
+each_pushed {X = X} P xs ys u many e len all this n d h = subst (λ (l : List X). P n (get_or l n d)) (sym e) (dite (dec_lt n (length xs))
+    (λ l. subst (P n) (sym (get_or-append xs (u ∷ []) d n l)) (all n d (omega arith)))
+    (λ no. let at : length xs ≡ n = omega arith in
+    subst (λ (k : ℕ). P k (get_or (xs ++ u ∷ []) k d)) at (subst (P (length xs)) (sym (get_or-append_seam xs u [] d)) (subst (λ (k : ℕ). P k u) (sym len) this))))

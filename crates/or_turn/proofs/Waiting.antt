@@ -1,6 +1,7 @@
 -- The steps `draw` and `look` keep the rule.
-use Rattle.std.proofs.Common.{◌≡◌, ℕ, ◌+◌, ◌-◌, ◌*◌, ◌^◌, ◌%◌, ◌<◌, ◌≤◌, Bool, true, false, List, [], ◌∷◌, ◌++◌, length, set, get_or, refl, sym, ap, ◌∙◌, subst, inr, ⊎_elim, arith, Option, Some, None, length-append}
+use Rattle.std.proofs.Common.{◌≡◌, ℕ, ◌+◌, ◌-◌, ◌*◌, ◌^◌, ◌%◌, ◌<◌, ◌≤◌, Bool, true, false, List, [], ◌∷◌, ◌++◌, length, set, get_or, ◌==◌, ◌≢◌, eq-eqb, ne_eqb, refl, sym, ap, ◌∙◌, subst, inr, ⊎_elim, arith, Option, Some, None, length-append}
 use mathlib.Core.Logic.{dite}
+use prog.Atomic.{either}
 use mathlib.Core.Option.{some, none, some-injective, some-ne-none}
 use mathlib.Core.Option as maybe
 use native.Mathlib.Decide.{ℕ_discrete}
@@ -21,7 +22,7 @@ use Rattle.or_turn.specs.declared.view.Stage.TheVariants.{Idle, Waits, Holds, Jo
 use Rattle.or_turn.specs.declared.view.View.{View}
 use Rattle.or_turn.specs.Rule.{SlotHolds, Witness, StageHolds, AreStays, AreJoined, SeatKnows, InTurn, IsHolder, Has, SlotIs, RuleHolds}
 use Rattle.or_words.specs.Settings.{Fits}
-use Rattle.or_turn.specs.Told.{SeatState, waiting_view, holding_view, drew, looked, ticket}
+use Rattle.or_turn.specs.Told.{SeatState, TakesBus, waiting_view, holding_view, drew, looked, ticket}
 use Rattle.or_turn.proofs.Counts.{begins_all, count_snoc, count_one, count_one_most, count_at, snoc_at, below_at, below_counts, below_append, below_weaken, core_told}
 use Rattle.or_turn.proofs.Seats.{has_me, has_still, each_still, live, stage_longer, slot_still, same_at, one_owner}
 use Rattle.or_turn.proofs.Opening.{not_spent, idle_waits, idle_holds, stage_same}
@@ -67,74 +68,91 @@ stage_held n n' mine seen (Waits t) s z q h k = stage_same n (record n' { held =
 stage_held n n' mine seen Holds s z q h k = (k.0, k.1, k.2 ∙ sym s, ap (λ (xs : List ℕ). get_elem? xs 0) q ∙ k.3, h)
 
 module _ (st : Settings) where
-  pub draws : (slots id : ℕ) (me : SeatState) (c : ℕ) → me.0.stage ≡ Idle → me.0.cores ≡ c ∷ [] → (core_at (board_of (me.0.settings) me.0.seen).cores c).stop ≡ None
-      → Allows (RuleHolds st) slots id me 0 (λ x. (x + 1) % 2 ^ 64) (drew (step slots 0 1 0 none) me)
-  draws slots id me c idle one runs s kept _ at _ =
-      let n : Witness = kept.now in let mine : SeatKnows st n id me.0 = kept.each id me.0 at in
-      let is : me.0.settings ≡ st = live st n id me.0 mine (not_spent me.0 idle) in
-      let has : 0 < count c me.0.cores = only c me.0.cores one in let own = mine.cores c has in let own_in = own.0 in let own_at = own.1 in
-      let x : ℕ = get_or s.words 0 0 in let found : x ≡ length n.stays + length n.queue = ap (λ (ws : List ℕ). get_or ws 0 0) kept.words in
-      let few = few_tickets st n kept.fits kept.are_stays kept.most kept.defined kept.others (λ i d e. (kept.queued i d e).0) kept.once in
-      let grown : length (n.queue ++ c ∷ []) ≡ length n.queue + 1 = length-append n.queue (c ∷ []) in
-      let next : (x + 1) % 18446744073709551616 ≡ length n.stays + length (n.queue ++ c ∷ []) = omega arith in
-      let n' : Witness = record n { queue = n.queue ++ c ∷ [] } in let w : View = waiting_view me.0 x in
-      let absent : (i : ℕ) → get_elem? n.queue i ≡ some c → ⊥ = λ i e. let h = kept.waiting i c e in
-      idle_waits n i h.0.stage (ap (λ (v : View). v.stage) (sym (same_at s.views id (n.owner c) me.0 h.0 at h.1 (sym own_at))) ∙ idle) h.2 in
-      let runs' : (core_at (board_of st n.schedule).cores c).stop ≡ None =
-      ap (λ (k : Core). k.stop) (sym (core_told st me.0.seen n.schedule c kept.defined mine.seen (mine.told c has))) ∙ (ap (λ (z : Settings). (core_at (board_of z me.0.seen).cores c).stop) (sym is) ∙ runs) in (
-        w,
+  pub draws : (slots id : ℕ) (me : SeatState) (old new c : ℕ) → new ≡ (old + 1) % 2 ^ 64 → me.0.stage ≡ Idle → me.0.cores ≡ c ∷ [] → (core_at (board_of (me.0.settings) me.0.seen).cores c).stop ≡ None
+      → Allows (RuleHolds st) slots id me 0 (λ n. either (n == old) new n) (drew (step slots 0 old new none) me)
+  draws slots id me old new c plus idle one runs s kept _ at _ = dite (ℕ_discrete (get_or s.words 0 0) old) (λ same. hit same (either (get_or s.words 0 0 == old) new (get_or s.words 0 0)) (is_new (get_or s.words 0 0) same)) (λ other.
+      let x : ℕ = get_or s.words 0 0 in
+      let stays : set s.words 0 (either (x == old) new x) ≡ s.words = ap (set s.words 0) (is_old x other) ∙ set-get_or s.words 0 0 in (
+        me.0,
         keeps,
         tt,
-        record {
-          fits = kept.fits;
-          now = n';
-          words = ap (λ (ws : List ℕ). set ws 0 ((x + 1) % 18446744073709551616)) kept.words ∙ ap (λ (y : ℕ). y ∷ length n.stays ∷ n.enrolled ∷ []) next;
-          are_stays = kept.are_stays;
-          most = kept.most;
-          defined = kept.defined;
-          others = kept.others;
-          queued = λ i d e. ⊎_elim (λ (t : get_elem? n.queue i ≡ some d). kept.queued i d t)
-              (λ (t : (i ≡ length n.queue) × (c ≡ d)). subst (λ (z : ℕ). (z < n.enrolled) × ((core_at (board_of st n.schedule).cores z).stop ≡ None)) t.1 (own_in, runs')) (snoc_at n.queue c i d e);
-          once = λ d. let sum = count_snoc d c n.queue in dite (ℕ_discrete c d)
-              (λ e. let none : count d n.queue ≡ 0 = dite (ℕ_discrete (count d n.queue) 0) (λ z. z) (λ z. let p = count_at d n.queue (omega arith) in absurd (absent p.0 (p.1 ∙ ap some (sym e)))) in let l = count_one_most d c in omega arith)
-              (λ other. let none : count d (c ∷ []) ≡ 0 = count_other d c other in let l = kept.once d in omega arith);
-          owned = λ d h. has_still s.views id me.0 w at (n.owner d) (λ v. 0 < count d v.cores) (λ v. 0 < count d v.cores) (λ v z. z) (λ z. z) (kept.owned d h);
-          waiting = λ i d e. ⊎_elim
-              (λ (t : get_elem? n.queue i ≡ some d). has_still s.views id me.0 w at (n.owner d) (λ v. InTurn n i v.stage) (λ v. InTurn n' i v.stage) (λ v z. in_turn n n' i v.stage refl z) (λ z. absurd (idle_waits n i me.0.stage idle z)) (kept.waiting i d t))
-              (λ (t : (i ≡ length n.queue) × (c ≡ d)). subst (λ (j : ℕ). Has (set s.views id w) j (λ v. InTurn n' i v.stage)) (sym own_at ∙ ap n.owner t.1)
-              (has_me s.views id me.0 w at (λ v. InTurn n' i v.stage) (let l = t.0 in let z : x ≡ length n.stays + i = omega arith in z)))
-              (snoc_at n.queue c i d e);
-          each = each_still s.views id me.0 w at (SeatKnows st n')
-              (record {
-                settings = inr is;
-                opening = mine.opening;
-                cores = mine.cores;
-                once = mine.once;
-                seen = mine.seen;
-                told = mine.told;
-                stage = (c, one, omega arith, at_last n.queue c (x - length n.stays) (omega arith));
-              })
-              (λ j v other e. let o = kept.each j v e in record {
-                settings = o.settings;
-                opening = o.opening;
-                cores = o.cores;
-                once = o.once;
-                seen = o.seen;
-                told = o.told;
-                stage = stage_longer n n' (c ∷ []) v.cores v.seen v.stage refl refl refl refl o.stage;
-              });
-          slot = slot_still st n n' n.held s record { words = set s.words 0 ((x + 1) % 18446744073709551616); homes = s.homes; views = set s.views id w } refl refl
-              (λ j h. (j, has_still s.views id me.0 w at j (λ v. IsHolder v.stage) (λ v. IsHolder v.stage) (λ v z. z) (λ z. absurd (idle_holds me.0.stage idle z)) h)) kept.slot;
-        },
-        (refl, refl),
-      )
+        subst (λ (p : List ℕ × List View). RuleHolds st record { words = p.0; homes = s.homes; views = p.1 }) (λ i. (sym stays i, sym (Rattle.atomic_table.proofs.Lists.set_again s.views id me.0 at) i)) kept,
+        ((λ e. absurd (other e)), λ _. refl),
+      ))
     where
+      is_new : (x : ℕ) → x ≡ old → either (x == old) new x ≡ new
+      is_new x e = rw (eq-eqb x old e) refl
+
+      is_old : (x : ℕ) → x ≢ old → either (x == old) new x ≡ x
+      is_old x e = rw (ne_eqb x old e) refl
+
       in_turn : (n n' : Witness) (i : ℕ) (x : Stage) → n'.stays ≡ n.stays → InTurn n i x → InTurn n' i x
       in_turn n n' i Idle e h = h
       in_turn n n' i Spent e h = h
       in_turn n n' i (Joined x) e h = h
       in_turn n n' i Holds e h = h
       in_turn n n' i (Waits t) e h = h ∙ ap (λ (xs : List (ℕ × ℕ)). length xs + i) (sym e)
+
+      hit : get_or s.words 0 0 ≡ old → (y : ℕ) → y ≡ new → (w : View) × (a : Act (Option Transfer)) × Valid s.homes me.1 a × RuleHolds st (stepped s 0 y id me.1 w a) × drew (step slots 0 old new none) me (get_or s.words 0 0) (w, carried_after me.1 a)
+      hit same y y_is =
+          let n : Witness = kept.now in let mine : SeatKnows st n id me.0 = kept.each id me.0 at in
+          let is : me.0.settings ≡ st = live st n id me.0 mine (not_spent me.0 idle) in
+          let has : 0 < count c me.0.cores = only c me.0.cores one in let own = mine.cores c has in let own_in = own.0 in let own_at = own.1 in
+          let x : ℕ = get_or s.words 0 0 in let found : x ≡ length n.stays + length n.queue = ap (λ (ws : List ℕ). get_or ws 0 0) kept.words in
+          let few = few_tickets st n kept.fits kept.are_stays kept.most kept.defined kept.others (λ i d e. (kept.queued i d e).0) kept.once in
+          let grown : length (n.queue ++ c ∷ []) ≡ length n.queue + 1 = length-append n.queue (c ∷ []) in
+          let next : y ≡ length n.stays + length (n.queue ++ c ∷ []) = omega arith in
+          let n' : Witness = record n { queue = n.queue ++ c ∷ [] } in let w : View = waiting_view me.0 x in
+          let absent : (i : ℕ) → get_elem? n.queue i ≡ some c → ⊥ = λ i e. let h = kept.waiting i c e in
+          idle_waits n i h.0.stage (ap (λ (v : View). v.stage) (sym (same_at s.views id (n.owner c) me.0 h.0 at h.1 (sym own_at))) ∙ idle) h.2 in
+          let runs' : (core_at (board_of st n.schedule).cores c).stop ≡ None =
+          ap (λ (k : Core). k.stop) (sym (core_told st me.0.seen n.schedule c kept.defined mine.seen (mine.told c has))) ∙ (ap (λ (z : Settings). (core_at (board_of z me.0.seen).cores c).stop) (sym is) ∙ runs) in (
+            w,
+            keeps,
+            tt,
+            record {
+              fits = kept.fits;
+              now = n';
+              words = ap (λ (ws : List ℕ). set ws 0 (y)) kept.words ∙ ap (λ (y : ℕ). y ∷ length n.stays ∷ n.enrolled ∷ []) next;
+              are_stays = kept.are_stays;
+              most = kept.most;
+              defined = kept.defined;
+              others = kept.others;
+              queued = λ i d e. ⊎_elim (λ (t : get_elem? n.queue i ≡ some d). kept.queued i d t)
+                  (λ (t : (i ≡ length n.queue) × (c ≡ d)). subst (λ (z : ℕ). (z < n.enrolled) × ((core_at (board_of st n.schedule).cores z).stop ≡ None)) t.1 (own_in, runs')) (snoc_at n.queue c i d e);
+              once = λ d. let sum = count_snoc d c n.queue in dite (ℕ_discrete c d)
+                  (λ e. let none : count d n.queue ≡ 0 = dite (ℕ_discrete (count d n.queue) 0) (λ z. z) (λ z. let p = count_at d n.queue (omega arith) in absurd (absent p.0 (p.1 ∙ ap some (sym e)))) in let l = count_one_most d c in omega arith)
+                  (λ other. let none : count d (c ∷ []) ≡ 0 = count_other d c other in let l = kept.once d in omega arith);
+              owned = λ d h. has_still s.views id me.0 w at (n.owner d) (λ v. 0 < count d v.cores) (λ v. 0 < count d v.cores) (λ v z. z) (λ z. z) (kept.owned d h);
+              waiting = λ i d e. ⊎_elim
+                  (λ (t : get_elem? n.queue i ≡ some d). has_still s.views id me.0 w at (n.owner d) (λ v. InTurn n i v.stage) (λ v. InTurn n' i v.stage) (λ v z. in_turn n n' i v.stage refl z) (λ z. absurd (idle_waits n i me.0.stage idle z)) (kept.waiting i d t))
+                  (λ (t : (i ≡ length n.queue) × (c ≡ d)). subst (λ (j : ℕ). Has (set s.views id w) j (λ v. InTurn n' i v.stage)) (sym own_at ∙ ap n.owner t.1)
+                  (has_me s.views id me.0 w at (λ v. InTurn n' i v.stage) (let l = t.0 in let z : x ≡ length n.stays + i = omega arith in z)))
+                  (snoc_at n.queue c i d e);
+              each = each_still s.views id me.0 w at (SeatKnows st n')
+                  (record {
+                    settings = inr is;
+                    opening = mine.opening;
+                    cores = mine.cores;
+                    once = mine.once;
+                    seen = mine.seen;
+                    told = mine.told;
+                    stage = (c, one, omega arith, at_last n.queue c (x - length n.stays) (omega arith));
+                  })
+                  (λ j v other e. let o = kept.each j v e in record {
+                    settings = o.settings;
+                    opening = o.opening;
+                    cores = o.cores;
+                    once = o.once;
+                    seen = o.seen;
+                    told = o.told;
+                    stage = stage_longer n n' (c ∷ []) v.cores v.seen v.stage refl refl refl refl o.stage;
+                  });
+              slot = slot_still st n n' n.held s record { words = set s.words 0 (y); homes = s.homes; views = set s.views id w } refl refl
+                  (λ j h. (j, has_still s.views id me.0 w at j (λ v. IsHolder v.stage) (λ v. IsHolder v.stage) (λ v z. z) (λ z. absurd (idle_holds me.0.stage idle z)) h)) kept.slot;
+            },
+            ((λ _. (refl, refl)), λ no. absurd (no same)),
+          )
 
   pub looks : (slots id : ℕ) (me : SeatState) (t : ℕ) → me.0.stage ≡ Waits t → me.1 ≡ [] → Allows (RuleHolds st) slots id me 1 (λ x. x) (looked (step slots 1 0 0 none) me)
   looks slots id me t waits bare s kept _ at _ =
@@ -236,3 +254,18 @@ module _ (st : Settings) where
               λ no. absurd (no (hit ∙ sym ticket_is)),
             ),
           )
+
+-- who took the bus with a ticket took it
+pub took_waiting : (v w : View) (t : ℕ) (m : SeatState) → w ≡ waiting_view v t → TakesBus w m → TakesBus v m
+took_waiting v w t m e tk = let k = subst (λ (x : View). TakesBus x m) e tk in record {
+  schedule = k.schedule;
+  transfer = k.transfer;
+  slots = k.slots;
+  view = k.view;
+  fits = k.fits;
+  begins = k.begins;
+  defined = k.defined;
+  holds = k.holds;
+  left = k.left;
+  told = k.told;
+}

@@ -60,9 +60,9 @@ ticket _ = 0
 abbrev pub enrolled : TableStep → SeatState → ℕ → SeatState → Type 0
 enrolled step m n m' = (m'.1 ≡ m.1) × (m'.0 ≡ enrolled_view m.0 n) × (m.0.opening ≡ Some n)
 
--- the old word is the ticket
+-- where the old word is the one that was asked for, it is the ticket; else nothing changes
 abbrev pub drew : TableStep → SeatState → ℕ → SeatState → Type 0
-drew step m n m' = (m'.1 ≡ m.1) × (m'.0 ≡ waiting_view m.0 n)
+drew step m n m' = (n ≡ step.first → (m'.1 ≡ m.1) × (m'.0 ≡ waiting_view m.0 n)) × (n ≢ step.first → m' ≡ m)
 
 -- the bus is the seat's
 pub record TakesBus (v : View) (m' : SeatState) : Type 0 where

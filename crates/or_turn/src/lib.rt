@@ -3,6 +3,7 @@
 
 mod crossing;
 mod laws;
+mod pace;
 mod plays;
 mod rule;
 mod shared;

@@ -13,31 +13,29 @@ use std::alloc::Global;
 mod closing;
 mod joining;
 mod opening;
-mod pace;
-mod sleepers;
 mod steps;
 mod turning;
+mod waiters;
 
-use sleepers::Sleepers;
+use waiters::Waiters;
 
-/// What units share: the bus with the schedule so far, whose turn it is, and where the others sleep.
+/// What units share: the bus with the schedule so far, whose turn it is, and who waits.
 /// Threads may share it.
 #[derive(Drop)]
 pub struct Shared {
     table: Table<Option<Transfer>, View, OpenedWith, TurnRule, Global>,
-    sleepers: Sleepers,
+    waiters: Waiters,
     ghost sized: { (table.shared.table_id.words ≡ 3) × (table.shared.table_id.slots ≡ 1) },
 }
 
 impl Shared {
     ghost use Rattle.or_turn.specs.Units.{id_of, settings_in};
 
-    /// Sets how often who waits for the bus looks for its turn before it sleeps; at first it is 0. Looking pays only where
-    /// each thread has a processor of its own.
+    /// Sets how often who waits for the bus tries to take it before it sleeps; at first it is 0.
     pub fn set_looks(&mut self, looks: u32)
         ensures { (id_of self.new ≡ id_of self.old) × (settings_in self.new ≡ settings_in self.old) }
     {
-        self.sleepers.looks = looks;
+        self.waiters.looks = looks;
     }
 }
 

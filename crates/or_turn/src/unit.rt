@@ -3,6 +3,7 @@ ghost use Rattle.std.specs.Prelude.{◌≡◌, [], Bool, None, Some};
 ghost use Rattle.or_turn.specs.declared.view.Stage.TheVariants.{Idle};
 ghost use Rattle.or_turn.specs.Shown.{cores_shown, HasBegun};
 
+use crate::pace::Pace;
 use crate::view::{Transfer, View};
 use arrayvec::ArrayVec;
 use atomic_table::Seat;
@@ -17,8 +18,7 @@ pub struct Unit {
     pub(crate) seat: Place,
     pub(crate) cores: ArrayVec<Core, 8>,
     pub(crate) begun: Option<bool>,
-    /// How many private steps its last begun turn has.
-    pub(crate) private: u32,
+    pub(crate) pace: Pace,
     ghost bare: { seat.me.1 ≡ [] },
     ghost idle: { seat.me.0.stage ≡ Idle },
     ghost shown: { cores.items ≡ cores_shown seat.me.0 begun },
@@ -43,7 +43,7 @@ impl Unit {
             seat,
             cores,
             begun: None,
-            private: 0,
+            pace: Pace::new(),
         }
     }
 
@@ -64,7 +64,7 @@ impl Unit {
         let core = &mut self.cores.as_mut_slice()[0];
         let before = core.steps();
         let follows = core.begin_turn();
-        self.private = core.steps().wrapping_sub(before);
+        self.pace.begun(core.steps().wrapping_sub(before));
         self.begun = Some(follows);
     }
 }

@@ -53,9 +53,9 @@ impl Shared {
             seat,
             cores,
             begun: _,
-            private: _,
+            pace: _,
         } = last;
-        let Shared { table, sleepers: _ } = self;
+        let Shared { table, waiters: _ } = self;
         let mut closed = table.close_with(seat);
         let transfer = closed.take(0).unwrap();
         closed.free();

@@ -42,7 +42,7 @@ impl Shared {
             seat,
             cores,
             begun: _,
-            private: _,
+            pace: _,
         } = from;
         join(&self.table.shared, &mut into.seat, seat);
         append(&mut into.cores, cores);

@@ -10,8 +10,8 @@ ghost use Rattle.or_turn.specs.Shown.{seat_view};
 ghost use Rattle.or_turn.specs.Units.{Fresh, AreOpened};
 
 use super::Shared;
-use super::sleepers::Sleepers;
 use super::steps::{Top, enrol, split};
+use super::waiters::Waiters;
 use crate::unit::{Place, Unit};
 use crate::view::{OpenedWith, Transfer};
 use arrayvec::ArrayVec;
@@ -92,7 +92,7 @@ fn share(alloc: Global, opened: &OpenedWith, board: Board) -> Result<(Shared, Ve
     let units = seat_all(alloc, &table.shared, first, row, opened.config.cores)?;
     let shared = Shared {
         table,
-        sleepers: Sleepers::new(),
+        waiters: Waiters::new(opened.config.cores),
     };
     Ok((shared, units))
 }

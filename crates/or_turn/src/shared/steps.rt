@@ -6,7 +6,7 @@ ghost use Rattle.or_turn.specs.Schedules.{board_of, IsDefined, core_at};
 ghost use Rattle.or_turn.specs.Rule.{SlotHolds, longer};
 ghost use Rattle.or_turn.specs.Told.{TakesBus, waiting_view, done_view, enrolled_view, closed_view, next_view, both_view, halves, JoinConfirmed};
 
-use super::sleepers::Sleepers;
+use super::waiters::Waiters;
 use crate::plays::{Confirm, Divide, Draw, Enrol, Finish, Look, TurnRule, Unite};
 use crate::unit::Place;
 use crate::view::{OpenedWith, Transfer, View};
@@ -23,14 +23,14 @@ const ENROLLED: usize = 2;
 
 pub(crate) type Top = Steps<Option<Transfer>, View, OpenedWith, TurnRule>;
 
-// Draws a ticket.
-pub(crate) fn draw(top: &Top, seat: &mut Place) -> u64
+// Draws this ticket, where it is the next one.
+fn draw(top: &Top, seat: &mut Place, ticket: u64) -> bool
     requires table { (seat.old.table_id ≡ top.now.table_id) × (top.now.table_id.words ≡ 3) × (top.now.table_id.slots ≡ 1) }
     requires ready { (c : ℕ) × (seat.old.me.0.stage ≡ Idle) × (seat.old.me.0.cores ≡ c ∷ []) × ((core_at (board_of seat.old.me.0.settings seat.old.me.0.seen).cores c).stop ≡ None) }
-    ensures same { (seat.new.table_id ≡ seat.old.table_id) × (seat.new.id ≡ seat.old.id) × (seat.new.me.1 ≡ seat.old.me.1) }
-    ensures view { seat.new.me.0 ≡ waiting_view seat.old.me.0 result }
+    ensures same { (seat.new.table_id ≡ seat.old.table_id) × (seat.new.id ≡ seat.old.id) }
+    ensures drew { MatchBool result ((seat.new.me.1 ≡ seat.old.me.1) × (seat.new.me.0 ≡ waiting_view seat.old.me.0 ticket)) (seat.new.me ≡ seat.old.me) }
 {
-    top.fetch_add::<Draw>(seat, NEXT, 1)
+    top.compare_exchange::<Draw>(seat, NEXT, ticket, ticket.wrapping_add(1)) == ticket
 }
 
 // Looks whether the ticket is served, and takes the slot where it is.
@@ -43,55 +43,95 @@ fn look(top: &Top, seat: &mut Place, ticket: u64) -> bool
     top.load::<Look>(seat, SERVING) == ticket
 }
 
-// Looks up to so many times for the ticket to be served.
-fn watch(top: &Top, ticket: u64, looks: u32)
-    requires { top.now.table_id.words ≡ 3 }
-{
-    for _ in 0..looks {
-        if top.peek(SERVING) == ticket {
-            return;
-        }
-        hint::spin_loop();
-    }
-}
-
-// Waits until the ticket is served, and takes the slot.
-pub(crate) fn wait_for_bus<R: Wait>(
-    rt: &R,
-    top: &Top,
-    sleepers: &Sleepers,
-    seat: &mut Place,
-    ticket: u64,
-)
+// Takes the slot once the ticket is served. Who draws the ticket that is served finds it so at the first look.
+fn take<R: Wait>(rt: &R, top: &Top, seat: &mut Place, ticket: u64)
     requires table { (seat.old.table_id ≡ top.now.table_id) × (top.now.table_id.words ≡ 3) × (top.now.table_id.slots ≡ 1) }
     requires waits { (seat.old.me.0.stage ≡ Waits ticket) × (seat.old.me.1 ≡ []) }
     ensures same { (seat.new.table_id ≡ seat.old.table_id) × (seat.new.id ≡ seat.old.id) }
     ensures took { TakesBus seat.old.me.0 seat.new.me }
 {
     for _ in rt.forever() {
-        watch(top, ticket, sleepers.looks);
         if look(top, seat, ticket) {
             return;
         }
-        sleepers.announce(ticket);
-        if look(top, seat, ticket) {
-            sleepers.leave(ticket);
-            return;
-        }
-        sleepers.sleep(rt, ticket);
     }
     unreachable!()
 }
 
-// Ends a stay: the next ticket is served, and the slot goes home with the turns that were made.
-pub(crate) fn finish(top: &Top, sleepers: &Sleepers, seat: &mut Place)
+// Takes the bus, where it is free and not kept for another core.
+fn try_bus<R: Wait>(rt: &R, top: &Top, waiters: &Waiters, seat: &mut Place, core: u32) -> bool
+    requires table { (seat.old.table_id ≡ top.now.table_id) × (top.now.table_id.words ≡ 3) × (top.now.table_id.slots ≡ 1) }
+    requires ready { (c : ℕ) × (seat.old.me.0.stage ≡ Idle) × (seat.old.me.0.cores ≡ c ∷ []) × ((core_at (board_of seat.old.me.0.settings seat.old.me.0.seen).cores c).stop ≡ None) × (seat.old.me.1 ≡ []) }
+    ensures same { (seat.new.table_id ≡ seat.old.table_id) × (seat.new.id ≡ seat.old.id) }
+    ensures took { MatchBool result (TakesBus seat.old.me.0 seat.new.me) (seat.new.me ≡ seat.old.me) }
+{
+    let ticket = top.peek(SERVING);
+    if waiters.may_take(core) && top.peek(NEXT) == ticket && draw(top, seat, ticket) {
+        take(rt, top, seat, ticket);
+        return true;
+    }
+    false
+}
+
+// Tries up to so many times.
+fn try_often<R: Wait>(rt: &R, top: &Top, waiters: &Waiters, seat: &mut Place, core: u32) -> bool
+    requires table { (seat.old.table_id ≡ top.now.table_id) × (top.now.table_id.words ≡ 3) × (top.now.table_id.slots ≡ 1) }
+    requires ready { (c : ℕ) × (seat.old.me.0.stage ≡ Idle) × (seat.old.me.0.cores ≡ c ∷ []) × ((core_at (board_of seat.old.me.0.settings seat.old.me.0.seen).cores c).stop ≡ None) × (seat.old.me.1 ≡ []) }
+    ensures same { (seat.new.table_id ≡ seat.old.table_id) × (seat.new.id ≡ seat.old.id) }
+    ensures took { MatchBool result (TakesBus seat.old.me.0 seat.new.me) (seat.new.me ≡ seat.old.me) }
+{
+    for _ in 0..waiters.looks {
+        if try_bus(rt, top, waiters, seat, core) {
+            return true;
+        }
+        hint::spin_loop();
+    }
+    false
+}
+
+// Waits for the bus, and takes it.
+pub(crate) fn wait_for_bus<R: Wait>(
+    rt: &R,
+    top: &Top,
+    waiters: &Waiters,
+    seat: &mut Place,
+    core: u32,
+)
+    requires table { (seat.old.table_id ≡ top.now.table_id) × (top.now.table_id.words ≡ 3) × (top.now.table_id.slots ≡ 1) }
+    requires ready { (c : ℕ) × (seat.old.me.0.stage ≡ Idle) × (seat.old.me.0.cores ≡ c ∷ []) × ((core_at (board_of seat.old.me.0.settings seat.old.me.0.seen).cores c).stop ≡ None) × (seat.old.me.1 ≡ []) }
+    ensures same { (seat.new.table_id ≡ seat.old.table_id) × (seat.new.id ≡ seat.old.id) }
+    ensures took { TakesBus seat.old.me.0 seat.new.me }
+{
+    if try_bus(rt, top, waiters, seat, core) {
+        return;
+    }
+    waiters.begin(core);
+    for _ in rt.forever() {
+        if try_often(rt, top, waiters, seat, core) {
+            waiters.end(core);
+            return;
+        }
+        waiters.announce(core);
+        if try_bus(rt, top, waiters, seat, core) {
+            waiters.end(core);
+            return;
+        }
+        waiters.sleep(rt, core);
+    }
+    unreachable!()
+}
+
+// Ends a stay: the next ticket is served, and the slot goes home with the turns that were made. With so many turns of all
+// cores; `spins` says that the core waits for another.
+pub(crate) fn finish(top: &Top, waiters: &Waiters, seat: &mut Place, turns: u64, spins: bool)
     requires table { (seat.old.table_id ≡ top.now.table_id) × (top.now.table_id.words ≡ 3) × (top.now.table_id.slots ≡ 1) }
     requires holds { (c : ℕ) × (turns : ℕ) × (transfer : TransferModel) × (seat.old.me.0.stage ≡ Holds) × (seat.old.me.0.cores ≡ c ∷ []) × (seat.old.me.1 ≡ (0, Some transfer) ∷ []) × (1 ≤ turns) × IsDefined seat.old.me.0.settings (seat.old.me.0.seen ++ replicate turns c) × SlotHolds seat.old.me.0.settings (seat.old.me.0.seen ++ replicate turns c) transfer }
     ensures same { (seat.new.table_id ≡ seat.old.table_id) × (seat.new.id ≡ seat.old.id) }
     ensures view { (transfer : TransferModel) → seat.old.me.1 ≡ (0, Some transfer) ∷ [] → seat.new.me ≡ (done_view seat.old.me.0 transfer.schedule.items, []) }
 {
-    let served = top.fetch_add::<Finish>(seat, SERVING, 1);
-    sleepers.wake(served.wrapping_add(1));
+    let chosen = waiters.choose(turns, spins);
+    top.fetch_add::<Finish>(seat, SERVING, 1);
+    waiters.hand_over(chosen);
 }
 
 // Gives the next core to the seat with the opening mark.

@@ -11,8 +11,8 @@ ghost use Rattle.or_turn.specs.Stays.{HasBusBegun, MadeTurns};
 ghost use Rattle.or_turn.specs.Units.{view, begun, cores, IsOf};
 
 use super::Shared;
-use super::pace::Pace;
-use super::steps::{draw, finish, wait_for_bus};
+use super::steps::{finish, wait_for_bus};
+use crate::pace::Pace;
 use crate::unit::Unit;
 use crate::view::Transfer;
 use or_core::Core;
@@ -53,22 +53,21 @@ fn end_turn(core: &mut Core, transfer: &mut Transfer, follows: bool)
     mark_block(transfer);
 }
 
-// Makes the rest of a begun turn, which has so many private steps, and then further turns of the core while the stay goes
-// on, at most `most` in all.
-fn stay(core: &mut Core, transfer: &mut Transfer, follows: bool, private: u32, most: u32)
+// Makes the rest of a begun turn, and then further turns of the core while the stay goes on, at most `most` in all.
+fn stay(core: &mut Core, transfer: &mut Transfer, follows: bool, pace: &mut Pace, most: u32)
     requires begun { (st : Settings) × (turns : List ℕ) × (c : ℕ) × HasBusBegun st turns c core.old follows transfer.old }
     requires most { 1 ≤ most }
     ensures { (st : Settings) (turns : List ℕ) (c : ℕ) → HasBusBegun st turns c core.old follows transfer.old → MadeTurns st turns c 1 most core.new transfer.new }
 {
-    let mut pace = Pace::new();
-    let mut private = private;
     let mut left = most - 1;
     end_turn(core, transfer, follows);
-    while left > 0 && pace.goes_on(core, &transfer.bus, private) {
+    pace.ended(core, &transfer.bus);
+    while left > 0 && pace.goes_on(core) {
         let before = core.steps();
         let follows = core.begin_turn();
-        private = core.steps().wrapping_sub(before);
+        pace.begun(core.steps().wrapping_sub(before));
         end_turn(core, transfer, follows);
+        pace.ended(core, &transfer.bus);
         left -= 1;
     }
 }
@@ -90,14 +89,14 @@ impl Shared {
             unreachable!()
         };
         let top = &self.table.shared;
-        let ticket = draw(top, &mut unit.seat);
-        wait_for_bus(rt, top, &self.sleepers, &mut unit.seat, ticket);
+        let number = unit.cores.as_slice()[0].number();
+        wait_for_bus(rt, top, &self.waiters, &mut unit.seat, number);
         let mut transfer = top.exchange(&mut unit.seat, 0, None).unwrap();
-        let private = unit.private;
         let core = &mut unit.cores.as_mut_slice()[0];
-        stay(core, &mut transfer, follows, private, most);
+        stay(core, &mut transfer, follows, &mut unit.pace, most);
+        let turns = transfer.schedule.len() as u64;
         top.exchange(&mut unit.seat, 0, Some(transfer));
-        finish(top, &self.sleepers, &mut unit.seat);
+        finish(top, &self.waiters, &mut unit.seat, turns, unit.pace.spins());
         unit.begun = None;
     }
 }

@@ -6,7 +6,7 @@ use Rattle.or_turn.specs.declared.view.Transfer.{Transfer}
 use Rattle.or_turn.specs.declared.view.View.{View}
 use Rattle.or_turn.specs.Schedules.{IsDefined}
 use Rattle.or_turn.specs.Rule.{SlotHolds}
-use Rattle.or_turn.specs.Told.{TakesBus, SeatState, waiting_view, holding_view, done_view}
+use Rattle.or_turn.specs.Told.{TakesBus, SeatState, holding_view, done_view}
 use Rattle.or_turn.specs.Shown.{core_of, only_of, begun_core, cores_shown, HasBegun, Turned}
 use Rattle.or_turn.specs.Stays.{HasBusBegun, MadeTurns}
 use Rattle.or_turn.proofs.shared.Shared.turn.Goals.{In-Some, After-wait_for_bus, After-index-as_mut_slice-0, After-stay, After-exchange-2, After-finish}
@@ -28,12 +28,12 @@ has g c = c.args.unit.now.ready c.in-Some.follows c.in-Some.is
 items_is : (g : _) (c : In-Some g) → c.args.unit.now.cores.items ≡ begun_core c.args.unit.now.seat.me.0 (only_of c.args.unit.now.seat.me.0) ∷ []
 items_is g c = let v : View = c.args.unit.now.seat.me.0 in c.args.unit.now.shown ∙ (ap (λ (o : Option Bool). cores_shown v o) c.in-Some.is ∙ ap (λ (l : List ℕ). map (begun_core v) l) (has g c).0)
 
-took : (g : _) (c : After-wait_for_bus g) → TakesBus (waiting_view c.args.unit.now.seat.me.0 c.draw-ticket.result) c.wait_for_bus.new.seat.me
-took g c = subst (λ (v : View). TakesBus v c.wait_for_bus.new.seat.me) c.draw-ticket.ensures.view c.wait_for_bus.ensures.took
+took : (g : _) (c : After-wait_for_bus g) → TakesBus c.args.unit.now.seat.me.0 c.wait_for_bus.new.seat.me
+took g c = c.wait_for_bus.ensures.took
 
-pub draw-ticket-requires-clause-ready : goal.draw-ticket-requires-clause-ready
+pub wait_for_bus-requires-clause-ready : goal.wait_for_bus-requires-clause-ready
 unfolding core_of
-draw-ticket-requires-clause-ready g c = let h = has g (goal.at.draw-ticket-requires-clause-ready g c).In-Some in (only_of c.args.unit.now.seat.me.0, c.args.unit.now.idle, h.0, h.1)
+wait_for_bus-requires-clause-ready g c = let h = has g (goal.at.wait_for_bus-requires-clause-ready g c).In-Some in (only_of c.args.unit.now.seat.me.0, c.args.unit.now.idle, h.0, h.1, c.args.unit.now.bare)
 
 pub exchange-requires : goal.exchange-requires
 exchange-requires g c = let k = took g (goal.at.exchange-requires g c).After-wait_for_bus in (search rules, (Some k.transfer, k.slots ∙ ap (λ cs. (0, Some k.transfer) ∷ rest cs) (sym k.slots)))
@@ -41,7 +41,7 @@ exchange-requires g c = let k = took g (goal.at.exchange-requires g c).After-wai
 core_is : (g : _) (c : After-index-as_mut_slice-0 g) → get_or c.as_mut_slice.result.now 0 c.index-as_mut_slice-0.result ≡ begun_core c.args.unit.now.seat.me.0 (only_of c.args.unit.now.seat.me.0)
 core_is g c = let h = items_is g (goal.at.After-index-as_mut_slice-0 g c).In-Some in ap (λ (xs : List Core). get_or xs 0 c.index-as_mut_slice-0.result) (c.as_mut_slice.ensures.value ∙ h)
 
-transfer_is : (g : _) (c : After-index-as_mut_slice-0 g) (tk : TakesBus (waiting_view c.args.unit.now.seat.me.0 c.draw-ticket.result) c.wait_for_bus.new.seat.me) → c.unwrap-transfer.result ≡ tk.transfer
+transfer_is : (g : _) (c : After-index-as_mut_slice-0 g) (tk : TakesBus c.args.unit.now.seat.me.0 c.wait_for_bus.new.seat.me) → c.unwrap-transfer.result ≡ tk.transfer
 transfer_is g c tk = some_is c.unwrap-transfer.result tk.transfer c.exchange.result c.unwrap-transfer.ensures (slot_is c.wait_for_bus.new.seat.me.1 c.exchange.result (Some tk.transfer) _ _ c.exchange.ensures.2 tk.slots)
 
 -- the unit's core has the bus, in the middle of its turn
@@ -49,7 +49,7 @@ begun : (g : _) (c : After-index-as_mut_slice-0 g) → let v : View = c.args.uni
     HasBusBegun v.settings (took g (goal.at.After-index-as_mut_slice-0 g c).After-wait_for_bus).schedule (only_of v) (get_or c.as_mut_slice.result.now 0 c.index-as_mut_slice-0.result) c.in-Some.follows c.unwrap-transfer.result
 begun g c = let at = goal.at.After-index-as_mut_slice-0 g c in let v : View = c.args.unit.now.seat.me.0 in let h = has g at.In-Some in let tk = took g at.After-wait_for_bus in
     let u = transfer_is g c tk in let k = core_is g c in
-    subst (λ (p : Core × Transfer). HasBusBegun v.settings tk.schedule (only_of v) p.0 c.in-Some.follows p.1) (λ i. (sym k i, sym u i)) (turn.taken v _ _ h _ tk)
+    subst (λ (p : Core × Transfer). HasBusBegun v.settings tk.schedule (only_of v) p.0 c.in-Some.follows p.1) (λ i. (sym k i, sym u i)) (turn.taken v _ h _ tk)
 
 pub stay-requires-clause-begun : goal.stay-requires-clause-begun
 stay-requires-clause-begun g c = let at = goal.at.stay-requires-clause-begun g c in let v : View = c.args.unit.now.seat.me.0 in let h = has g at.In-Some in let tk = took g at.After-wait_for_bus in
@@ -61,13 +61,13 @@ stayed g c = let at = goal.at.After-stay g c in let v : View = c.args.unit.now.s
     c.stay.ensures v.settings tk.schedule (only_of v) (begun g at.After-index-as_mut_slice-0)
 
 -- the slot that is given back
-carried : (g : _) (c : After-exchange-2 g) (tk : TakesBus (waiting_view c.args.unit.now.seat.me.0 c.draw-ticket.result) c.wait_for_bus.new.seat.me) → c.exchange-2.new.seat.me ≡ (holding_view (waiting_view c.args.unit.now.seat.me.0 c.draw-ticket.result) tk.schedule, (0, Some c.stay.new.transfer) ∷ [])
+carried : (g : _) (c : After-exchange-2 g) (tk : TakesBus c.args.unit.now.seat.me.0 c.wait_for_bus.new.seat.me) → c.exchange-2.new.seat.me ≡ (holding_view c.args.unit.now.seat.me.0 tk.schedule, (0, Some c.stay.new.transfer) ∷ [])
 carried g c tk = let a = c.exchange.ensures.3 in let b = c.exchange-2.ensures.3 in
     b ∙ ap (λ (m : SeatState). let r : SeatState = (m.0, (0, Some c.stay.new.transfer) ∷ rest m.1) in r) (a ∙ ap (λ (m : SeatState). let r : SeatState = (m.0, (0, None) ∷ rest m.1) in r) (λ i. (tk.view i, tk.slots i)))
 
 pub finish-requires-clause-holds : goal.finish-requires-clause-holds
 finish-requires-clause-holds g c = let at = goal.at.finish-requires-clause-holds g c in let v : View = c.args.unit.now.seat.me.0 in let h = has g at.In-Some in let tk = took g at.After-wait_for_bus in
-    let e = carried g at.After-exchange-2 tk in let m = stayed g at.After-stay in let same : c.exchange-2.new.seat.me.0 ≡ holding_view (waiting_view v c.draw-ticket.result) tk.schedule = ap (λ (x : SeatState). x.0) e in (
+    let e = carried g at.After-exchange-2 tk in let m = stayed g at.After-stay in let same : c.exchange-2.new.seat.me.0 ≡ holding_view v tk.schedule = ap (λ (x : SeatState). x.0) e in (
       only_of v,
       m.made,
       c.stay.new.transfer,
@@ -79,15 +79,15 @@ finish-requires-clause-holds g c = let at = goal.at.finish-requires-clause-holds
       subst (λ (x : View). SlotHolds (x.settings) (x.seen ++ replicate m.made (only_of v)) c.stay.new.transfer) (sym same) m.has.holds,
     )
 
-after_is : (g : _) (c : After-finish g) (tk : TakesBus (waiting_view c.args.unit.now.seat.me.0 c.draw-ticket.result) c.wait_for_bus.new.seat.me)
-    → c.finish.new.seat.me ≡ (done_view (holding_view (waiting_view c.args.unit.now.seat.me.0 c.draw-ticket.result) tk.schedule) c.stay.new.transfer.schedule.items, [])
+after_is : (g : _) (c : After-finish g) (tk : TakesBus c.args.unit.now.seat.me.0 c.wait_for_bus.new.seat.me)
+    → c.finish.new.seat.me ≡ (done_view (holding_view c.args.unit.now.seat.me.0 tk.schedule) c.stay.new.transfer.schedule.items, [])
 after_is g c tk = let e = carried g (goal.at.After-finish g c).After-exchange-2 tk in
     c.finish.ensures.view c.stay.new.transfer (ap (λ (m : SeatState). m.1) e) ∙ ap (λ (m : SeatState). let r : SeatState = (done_view m.0 c.stay.new.transfer.schedule.items, []) in r) e
 
 pub invariant_of-unit : goal.invariant_of-unit
 invariant_of-unit g c = let at = goal.at.invariant_of-unit g c in let v : View = c.args.unit.now.seat.me.0 in let h = has g at.In-Some in let tk = took g at.After-wait_for_bus in
-    let e = after_is g at.After-finish tk in let m = stayed g at.After-stay in let w : View = turn.after v _ _ h _ tk _ _ _ m in
-    let core = turn.core_after_stay v _ _ h _ tk _ _ _ m in record {
+    let e = after_is g at.After-finish tk in let m = stayed g at.After-stay in let w : View = turn.after v _ h _ tk _ _ _ m in
+    let core = turn.core_after_stay v _ h _ tk _ _ _ m in record {
       bare = ap (λ (x : SeatState). x.1) e;
       idle = ap (λ (x : SeatState). x.0.stage) e;
       shown = ap (λ (xs : List Core). refill (length xs) xs (set c.as_mut_slice.result.now 0 c.stay.new.core)) (items_is g at.In-Some)
@@ -99,4 +99,4 @@ invariant_of-unit g c = let at = goal.at.invariant_of-unit g c in let v : View =
 pub returns-clause-turned : goal.returns-clause-turned
 returns-clause-turned g c = λ d one. let at = goal.at.returns-clause-turned g c in let v : View = c.args.unit.now.seat.me.0 in let h = has g at.In-Some in let tk = took g at.After-wait_for_bus in
     let e = after_is g at.After-finish tk in let m = stayed g at.After-stay in let same : only_of v ≡ d = ap (λ (l : List ℕ). get_or l 0 0) one in
-    subst (λ (p : View × ℕ). Turned v p.0 p.1 c.args.most) (λ i. (sym (ap (λ (x : SeatState). x.0) e) i, same i)) (turn.turned v _ _ h _ tk _ _ _ m c.args.unit.now.idle)
+    subst (λ (p : View × ℕ). Turned v p.0 p.1 c.args.most) (λ i. (sym (ap (λ (x : SeatState). x.0) e) i, same i)) (turn.turned v _ h _ tk _ _ _ m c.args.unit.now.idle)

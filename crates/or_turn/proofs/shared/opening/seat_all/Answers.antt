@@ -1,10 +1,11 @@
-use Rattle.std.proofs.Common.{rules, ◌≡◌, ◌-◌, List, length, get_or, ap, sym, subst, ◌∙◌, arith, lit<, length-drop}
+use Rattle.std.proofs.Common.{rules, ◌≡◌, ◌-◌, List, length, ap, ◌∙◌, arith, lit<, length-drop}
+use Rattle.std.proofs.lemmas.Grind.{common_steps}
 use Rattle.or_model.specs.Core.{Core}
 use Rattle.or_turn.specs.Schedules.{first_board}
 use Rattle.or_turn.proofs.Steps.{first_sound}
-use Rattle.or_turn.specs.Units.{Fresh}
-use Rattle.or_turn.proofs.Longer.{each_longer}
 use Rattle.or_turn.proofs.Removals.{row_rest}
+use Rattle.or_turn.proofs.Units.{each_pushed}
+use Rattle.or_turn.specs.Units.{Fresh}
 use Rattle.or_turn.proofs.shared.opening.seat_all.Goals as goal
 
 pub remove-requires : goal.remove-requires
@@ -19,8 +20,6 @@ loop-number-preserved c = record {
   len = search rules;
   room = search rules;
   row = c.remove.ensures.items ∙ row_rest c.loop-number.row.items (first_board c.args.first.me.0.settings).cores c.loop-number.number c.loop-number.invariant.row;
-  each = λ n d below.
-      let fresh : Fresh c.args.top.now.table_id c.args.first.me.0.settings c.loop-number.number c.fresh.result = search rules in
-      subst (λ units. Fresh c.args.top.now.table_id c.args.first.me.0.settings n (get_or units n d)) (sym c.push_reserved.ensures.items)
-      (each_longer (Fresh c.args.top.now.table_id c.args.first.me.0.settings) c.loop-number.units.items c.fresh.result c.loop-number.number (search rules) c.loop-number.invariant.each fresh n d below);
+  each = each_pushed (Fresh c.args.top.now.table_id c.args.first.me.0.settings) c.loop-number.units.items _ c.fresh.result c.loop-number.number c.push_reserved.ensures.items (let e = c.loop-number.units.ok.0 in let l = c.loop-number.invariant.len in omega arith) c.loop-number.invariant.each
+      (record { of = search rules; view_is = search rules; rests = c.fresh.ensures.1 });
 }

@@ -1,0 +1,82 @@
+//! How long a stay goes on. But for a core that has stopped, no clause depends on it.
+ghost use Rattle.std.specs.Prelude.{◌≡◌, None, IsTrue};
+
+use or_bus::{Access, Bus};
+use or_core::Core;
+
+/// A stay ends behind a turn with more private steps than this: those of its next turn are made beside the turns of others,
+/// and not while all wait for the bus.
+const FEW_STEPS: u32 = 24;
+
+/// So many turns apart are the traces at most that are compared.
+const FARTHEST: u32 = 16;
+
+/// Where a turn has left a core. A core that spins comes to one place again by the same access, and no word has been written
+/// since.
+#[derive(Clone, Copy, PartialEq, Eq)]
+struct Trace {
+    pc: u32,
+    last: Option<Access>,
+    writes: u64,
+}
+
+/// What is known of the last turns of a unit.
+#[derive(Drop)]
+pub(crate) struct Pace {
+    /// How many private steps the last turn has.
+    private: u32,
+    /// Whether the core waits for another: it does the same again and again, and nothing changes.
+    spins: bool,
+    /// The trace that others are compared with, how many turns have been made since, and after how many it is replaced.
+    seen: Option<Trace>,
+    since: u32,
+    distance: u32,
+}
+
+impl Pace {
+    pub(crate) fn new() -> Pace {
+        Pace {
+            private: 0,
+            spins: false,
+            seen: None,
+            since: 0,
+            distance: 1,
+        }
+    }
+
+    /// A turn has begun, with so many private steps.
+    pub(crate) fn begun(&mut self, private: u32) {
+        self.private = private;
+    }
+
+    /// It has ended. The distances between the traces grow, so that a loop of several accesses is found too.
+    pub(crate) fn ended(&mut self, core: &Core, bus: &Bus) {
+        let trace = Trace {
+            pc: core.place().pc,
+            last: bus.last(),
+            writes: bus.writes(),
+        };
+        self.spins = self.seen == Some(trace);
+        self.since = self.since.wrapping_add(1);
+        if self.since >= self.distance {
+            self.seen = Some(trace);
+            self.since = 0;
+            self.distance = if self.distance < FARTHEST {
+                self.distance.wrapping_mul(2)
+            } else {
+                1
+            };
+        }
+    }
+
+    pub(crate) fn spins(&self) -> bool {
+        self.spins
+    }
+
+    /// Whether the stay goes on behind this turn.
+    pub(crate) fn goes_on(&self, core: &Core) -> bool
+        ensures { IsTrue result → core.now.stop ≡ None }
+    {
+        core.stop().is_none() && self.private <= FEW_STEPS && !self.spins
+    }
+}

@@ -1,0 +1,175 @@
+//! Who waits for the bus, who is woken, and for whom it is kept. No clause depends on it.
+//!
+//! The bus may be taken by whoever finds it free, so that no time is lost while a sleeper wakes. Who waits is passed by a bounded
+//! number of turns; then the bus is kept for the core that has waited longest.
+//!
+//! No wake is lost. A waiter says `SLEEPS` before its last try, and a holder reads what the others say after it has given the
+//! bus back. So either the last try comes after that and finds the bus free, or the holder reads `SLEEPS`. It then wakes one
+//! sleeper, unless some waiter says `LOOKS`: that one tries once more after it says `SLEEPS`. A try that comes after the bus was
+//! given back fails only where another core has taken the bus, which gives it back in its turn, or where it is kept for a core
+//! that waits; this one is woken, if it sleeps.
+use std::sync::Wait;
+use std::sync::atomic::{AtomicU64, Ordering};
+
+/// What a core says that does not wait for the bus.
+const BUSY: u64 = 0;
+
+/// It waits, and tries again by itself: it has not slept, or was woken.
+const LOOKS: u64 = 1;
+
+/// It sleeps, or tries for the last time before it does.
+const SLEEPS: u64 = 2;
+
+const ANYBODY: u64 = 0;
+
+/// By so many turns of each other core may a waiter be passed.
+const PASSES: u64 = 256;
+
+/// What the cores of a board say, by number.
+#[derive(Drop)]
+pub(crate) struct Waiters {
+    says: [AtomicU64; 8],
+    /// How many turns had been made when it began to wait.
+    since: [AtomicU64; 8],
+    /// For whom the bus is kept: the number of a core plus 1.
+    kept_for: AtomicU64,
+    /// How many turns had been made when the bus was given back.
+    turns: AtomicU64,
+    cores: u32,
+    /// How often who waits tries before it sleeps.
+    pub(crate) looks: u32,
+}
+
+// One such word for each core.
+fn words(first: u64) -> [AtomicU64; 8] {
+    [
+        AtomicU64::new(first),
+        AtomicU64::new(first),
+        AtomicU64::new(first),
+        AtomicU64::new(first),
+        AtomicU64::new(first),
+        AtomicU64::new(first),
+        AtomicU64::new(first),
+        AtomicU64::new(first),
+    ]
+}
+
+impl Waiters {
+    pub(crate) fn new(cores: u32) -> Waiters {
+        Waiters {
+            says: words(BUSY),
+            since: words(0),
+            kept_for: AtomicU64::new(ANYBODY),
+            turns: AtomicU64::new(0),
+            cores,
+            looks: 0,
+        }
+    }
+
+    fn says(&self, core: u32) -> &AtomicU64 {
+        &self.says[(core % 8) as usize]
+    }
+
+    fn since(&self, core: u32) -> &AtomicU64 {
+        &self.since[(core % 8) as usize]
+    }
+
+    /// Whether the core may take the bus where it is free.
+    pub(crate) fn may_take(&self, core: u32) -> bool {
+        let kept_for = self.kept_for.load(Ordering::SeqCst);
+        kept_for == ANYBODY || kept_for == core as u64 + 1
+    }
+
+    /// The core begins to wait.
+    pub(crate) fn begin(&self, core: u32) {
+        self.since(core)
+            .store(self.turns.load(Ordering::SeqCst), Ordering::SeqCst);
+        self.says(core).store(LOOKS, Ordering::SeqCst);
+    }
+
+    /// The core is about to sleep. It has to try once more before it does.
+    pub(crate) fn announce(&self, core: u32) {
+        self.says(core).store(SLEEPS, Ordering::SeqCst);
+    }
+
+    /// Sleeps until a wake, which may also come for no reason.
+    pub(crate) fn sleep<R: Wait>(&self, rt: &R, core: u32) {
+        self.says(core).park(rt, SLEEPS as u32);
+        self.says(core).store(LOOKS, Ordering::SeqCst);
+    }
+
+    /// The core waits no longer: it has the bus.
+    pub(crate) fn end(&self, core: u32) {
+        self.says(core).store(BUSY, Ordering::SeqCst);
+    }
+
+    // The core that has waited longest, and how many turns had been made when it began.
+    fn longest(&self) -> Option<(u32, u64)> {
+        let mut longest = None;
+        for core in 0..self.cores {
+            if self.says(core).load(Ordering::SeqCst) != BUSY {
+                let since = self.since(core).load(Ordering::SeqCst);
+                let first = match longest {
+                    Some((_, least)) => since < least,
+                    None => true,
+                };
+                if first {
+                    longest = Some((core, since));
+                }
+            }
+        }
+        longest
+    }
+
+    // Whether some waiter tries again by itself.
+    fn some_looks(&self) -> bool {
+        for core in 0..self.cores {
+            if self.says(core).load(Ordering::SeqCst) == LOOKS {
+                return true;
+            }
+        }
+        false
+    }
+
+    // Wakes the core, if it sleeps.
+    fn wake(&self, core: u32) {
+        let says = self.says(core);
+        if says
+            .compare_exchange(SLEEPS, LOOKS, Ordering::SeqCst, Ordering::SeqCst)
+            .is_ok()
+        {
+            says.wake_one();
+        }
+    }
+
+    /// The holder is about to give the bus back, after so many turns of all cores; `spins` says that its own core has nothing
+    /// to do but to wait for another. Answers who is to be woken, if the bus is kept for it, or soon will be.
+    pub(crate) fn choose(&self, turns: u64, spins: bool) -> Option<u32> {
+        self.turns.store(turns, Ordering::SeqCst);
+        let Some((core, since)) = self.longest() else {
+            self.kept_for.store(ANYBODY, Ordering::SeqCst);
+            return None;
+        };
+        let most = PASSES * self.cores.saturating_sub(1) as u64;
+        let passed = turns.saturating_sub(since);
+        let kept = spins || passed >= most;
+        let kept_for = if kept { core as u64 + 1 } else { ANYBODY };
+        self.kept_for.store(kept_for, Ordering::SeqCst);
+        if kept || passed >= most / 2 {
+            Some(core)
+        } else {
+            None
+        }
+    }
+
+    /// The bus has been given back: wakes the chosen core, or one that sleeps where nobody tries by itself.
+    pub(crate) fn hand_over(&self, chosen: Option<u32>) {
+        if let Some(core) = chosen {
+            self.wake(core);
+        } else if !self.some_looks() {
+            if let Some((core, _)) = self.longest() {
+                self.wake(core);
+            }
+        }
+    }
+}
