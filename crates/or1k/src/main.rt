@@ -11,7 +11,7 @@ const VERSION: &str = "or1k 0.1.0\n";
 const HELP: &str = "\
 or1k: an emulator of a symmetric multicore OpenRISC board
 
-or1k run IMAGE INPUT SCHED REPORT [--cores N] [--budget N] [--ram N] [--pic latched] [--stay N]
+or1k run IMAGE INPUT SCHED REPORT [--cores N] [--budget N] [--ram N] [--pic latched] [--stay N] [--status]
     Runs the ELF32 file IMAGE, with the bytes of the file INPUT as the console's input (- for none), until every core
     has stopped. Writes the recording of the order of turns to SCHED, the report of the final cores to REPORT, and
     what the console has shown to standard output.
@@ -20,6 +20,7 @@ or1k run IMAGE INPUT SCHED REPORT [--cores N] [--budget N] [--ram N] [--pic latc
     --ram N      RAM in MiB, 1 to 256; 32 where left out
     --pic latched    interrupt controllers that latch their lines
     --stay N     turns that a core makes before it releases the bus, 1 to 4096; 256 where left out
+    --status     ends with 15 where a core used up its budget, or its exit value is not 0
 
 or1k replay IMAGE INPUT SCHED REPORT
     Follows the recording SCHED of a run of IMAGE with INPUT, and writes the report and the console as the run did.
@@ -59,7 +60,8 @@ or1k --version    prints the version
 
 Status: 0 all was done, 2 the words are no command, 3 the image has a fault, 4 the recording is refused, 5 a file was not
 read, 6 an output was not written, 7 no memory, 8 a file is too long, 9 the source has a fault, 10 the script has a
-fault, 12 the symbols have a fault, 13 an argument is no text. Where it is not 0, standard error has a line.
+fault, 12 the symbols have a fault, 13 an argument is no text, 15 a core failed (run --status). Where it is neither 0 nor
+15, standard error has a line.
 ";
 
 // Whether the only word is this one.

@@ -15,7 +15,7 @@ use Rattle.or_command_source.specs.Generation.{gen_loads, gen_check, GenWrites}
 use Rattle.or_command_back.specs.Back.{back_loads, BackVerdict, BackWrites}
 use Rattle.or_command_race.specs.Race.{race_loads, RaceVerdict, RaceWrites}
 use Rattle.or_command_prof.specs.Prof.{prof_loads, ProfVerdict, ProfWrites}
-use Rattle.or_command_run.specs.Run.{run_loads, run_check, RunWrites}
+use Rattle.or_command_run.specs.Run.{RunAnswers, RunDecided}
 use Rattle.or_command_run.specs.Bench.{bench_loads, bench_check, BenchWrites}
 
 -- the commands that work cores on threads, and so wait
@@ -46,7 +46,7 @@ pub record IsUsage (old new : HostState) : Type 0 where
 
 -- what stands after a command with this status
 abbrev pub CommandEnds : Shown → ℕ → HostState → HostState → Type 0
-CommandEnds (run names options) status old new = Answers (run_loads names) (run_check names options.config) (RunWrites names options.config) LeavesAll status old new
+CommandEnds (run names options) status old new = RunAnswers names options status old new
 CommandEnds (replay files report) status old new = AnswersBy (replay_loads files) (RecordedVerdict files) (ReplayWrites files report) LeavesAll status old new
 CommandEnds (asm source image) status old new = Answers (asm_loads source) (asm_check source) (AsmWrites image) LeavesAll status old new
 CommandEnds (dis image) status old new = Answers (dis_loads image) (dis_check image) DisWrites (DisLacks image) status old new
@@ -57,9 +57,9 @@ CommandEnds (back files script every) status old new = AnswersBy (back_loads fil
 CommandEnds (race files) status old new = AnswersBy (race_loads files) (RaceVerdict files) (RaceWrites files) LeavesAll status old new
 CommandEnds (prof files) status old new = AnswersBy (prof_loads files) (ProfVerdict files) (ProfWrites files) LeavesAll status old new
 
--- where no fault came, the files decide the status, or memory ran out
+-- where no fault came, the files decide the status, or memory ran out; of a run 15 may stand for 0 where that is asked for
 abbrev pub IsComplete : Shown → ℕ → HostState → HostState → Type 0
-IsComplete (run names options) status old new = IsDecided (run_loads names) (run_check names options.config) (RunWrites names options.config) LeavesAll status old new
+IsComplete (run names options) status old new = RunDecided names options status old new
 IsComplete (replay files report) status old new = IsDecidedBy (replay_loads files) (RecordedVerdict files) (ReplayWrites files report) LeavesAll status old new
 IsComplete (asm source image) status old new = IsDecided (asm_loads source) (asm_check source) (AsmWrites image) LeavesAll status old new
 IsComplete (dis image) status old new = IsDecided (dis_loads image) (dis_check image) DisWrites (DisLacks image) status old new

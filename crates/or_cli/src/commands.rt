@@ -7,7 +7,7 @@ ghost use Rattle.or_command_line.specs.Names.{run_names, recorded_names, AreWrit
 ghost use Rattle.or_command.specs.Outcomes.{LeavesAll};
 ghost use Rattle.or_command.specs.Answered.{Answers, AnswersBy, IsDecided, IsDecidedBy};
 ghost use Rattle.or_command_replay.specs.Replay.{replay_loads, RecordedVerdict, ReplayWrites};
-ghost use Rattle.or_command_run.specs.Run.{run_loads, run_check, RunWrites};
+ghost use Rattle.or_command_run.specs.Run.{RunAnswers, RunDecided};
 ghost use Rattle.or_command_run.specs.Bench.{bench_loads, bench_check, BenchWrites};
 ghost use Rattle.or_command_line.specs.Words.{IsFileName};
 ghost use Rattle.or_command_line.specs.Workloads.{FitsWorkload};
@@ -26,7 +26,7 @@ use or_command_line::{Command, Recorded, Run, Workload, parse};
 use or_command_prof::prof;
 use or_command_race::race;
 use or_command_replay::replay;
-use or_command_run::{bench, run};
+use or_command_run::{bench, run, run_status};
 use or_command_source::{asm, dis, generate};
 use or_host::Host;
 use std::alloc::Global;
@@ -44,14 +44,13 @@ fn run_command<R: Threads + Wait + Sync, H: Host, G: Gate + Sync>(
     requires names { AreWritten (run_names words.now) }
     requires fits { Fits words.now.options.config }
     requires stay { FitsStay words.now.options.stay }
-    ensures ends { Answers (run_loads (run_names words.now)) (run_check (run_names words.now) words.now.options.config) (RunWrites (run_names words.now) words.now.options.config) LeavesAll
-        result (H.state host.old) (H.state host.new) }
-    ensures complete { IsDecided (run_loads (run_names words.now)) (run_check (run_names words.now) words.now.options.config) (RunWrites (run_names words.now) words.now.options.config) LeavesAll
-        result (H.state host.old) (H.state host.new) }
+    ensures ends { RunAnswers (run_names words.now) words.now.options result (H.state host.old) (H.state host.new) }
+    ensures complete { RunDecided (run_names words.now) words.now.options result (H.state host.old) (H.state host.new) }
     ensures command { result ≢ 2 }
 {
-    let outcome = run(rt, alloc, words, host, gate);
-    conclude(host, outcome)
+    let ended = run(rt, alloc, words, host, gate);
+    let status = conclude(host, ended.outcome);
+    run_status(words.options.status, ended.failed, status)
 }
 
 // Runs a workload, and says how that ended.
@@ -218,8 +217,8 @@ pub fn top_alone<H: Host>(alloc: Global, words: &[String], host: &mut H) -> u8
 /// Does what the words ask of the outside, and answers the status: 0 where all was done, 2 where the words are no command,
 /// 3 where the image has a fault, 4 where the recording is refused, 5 where a file was not read, 6 where an output was not
 /// written, 7 for want of memory, 8 where a file is too long, 9 where the source has a fault, 10 where the script has one,
-/// 12 where the symbols of a profiled image have one.
-/// The line of a status other than 0 is said.
+/// 12 where the symbols of a profiled image have one, 15 where all was done, a core failed and `--status` of `run` asks for that.
+/// The line of a status other than 0 and 15 is said.
 pub fn top<R: Threads + Wait + Sync, H: Host, G: Gate + Sync>(
     rt: &R,
     alloc: Global,

@@ -12,4 +12,6 @@ mod bench_tests;
 #[cfg(test)]
 mod replay_tests;
 #[cfg(test)]
+mod status_tests;
+#[cfg(test)]
 mod tests;

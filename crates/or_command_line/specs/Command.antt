@@ -28,7 +28,7 @@ abbrev pub run_with : Names → Option RunOptions → Option Shown
 run_with names None = None
 run_with names (Some options) = Some (run names options)
 
--- `IMAGE INPUT SCHED REPORT [--cores N] [--budget N] [--ram N] [--pic latched] [--stay N]`
+-- `IMAGE INPUT SCHED REPORT [--cores N] [--budget N] [--ram N] [--pic latched] [--stay N] [--status]`
 abbrev pub run_where : Names → List (List ℕ) → Option Shown
 run_where names options = if are_run_names names then run_with names (run_options_of options) else None
 

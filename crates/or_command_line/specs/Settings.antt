@@ -1,4 +1,4 @@
--- The options of a run: `[--cores N] [--budget N] [--ram N] [--pic latched] [--stay N]`, in this order, and those of other commands.
+-- The options of a run: `[--cores N] [--budget N] [--ram N] [--pic latched] [--stay N] [--status]`, in this order, and those of other commands.
 use Rattle.std.specs.Prelude.{ℕ, List, [], ◌∷◌, Bool, true, false, ◌&&◌, ◌≤◌, ◌^◌, nat_le, if◌then◌else◌, Option, Some, None, codes}
 use Rattle.std.specs.Str.{bytes_eq}
 use Rattle.or_words.specs.declared.Config.{Config}
@@ -17,6 +17,11 @@ option_value (value ∷ rest) = with_rest rest (decimal_of value)
 abbrev pub option_of : List ℕ → ℕ → List (List ℕ) → Option (ℕ × List (List ℕ))
 option_of name default [] = Some (default, [])
 option_of name default (word ∷ rest) = if bytes_eq word name then option_value rest else Some (default, word ∷ rest)
+
+-- whether an option without a number stands here; and the words behind it
+abbrev pub flag_of : List ℕ → List (List ℕ) → Bool × List (List ℕ)
+flag_of name [] = (false, [])
+flag_of name (word ∷ rest) = if bytes_eq word name then (true, rest) else (false, word ∷ rest)
 
 abbrev pub latch_value : List (List ℕ) → Option (Bool × List (List ℕ))
 latch_value [] = None
@@ -72,10 +77,13 @@ pub record FitsStay (stay : ℕ) : Type 0 where
   pub some : 1 ≤ stay
   pub limit : stay ≤ 4096
 
+abbrev pub options_with_status : Config → ℕ → Bool × List (List ℕ) → Option RunOptions
+options_with_status config stay (status, []) = Some (record { config = config; stay = stay; status = status })
+options_with_status config stay (status, word ∷ rest) = None
+
 abbrev pub options_with_stay : Config → Option (ℕ × List (List ℕ)) → Option RunOptions
 options_with_stay config None = None
-options_with_stay config (Some (stay, [])) = Some (record { config = config; stay = stay })
-options_with_stay config (Some (stay, word ∷ rest)) = None
+options_with_stay config (Some (stay, rest)) = options_with_status config stay (flag_of (codes "--status") rest)
 
 abbrev pub options_with_config : Option (Config × List (List ℕ)) → Option RunOptions
 options_with_config None = None

@@ -19,6 +19,8 @@ pub struct RunOptions {
     pub config: Config,
     /// The most turns that a core makes while its worker holds the bus: 1 to 4096.
     pub stay: u32,
+    /// Whether the exit status tells that a core failed.
+    pub status: bool,
 }
 
 /// `IMAGE INPUT SCHED` and, of a run, `REPORT` and its options.

@@ -2,7 +2,7 @@
 ghost use Rattle.std.specs.Prelude.{◌≡◌, None, Some, MatchOption, IfSome, IsTrue};
 ghost use Rattle.or_words.specs.Settings.{Fits};
 ghost use Rattle.or_command_line.specs.Words.{texts};
-ghost use Rattle.or_command_line.specs.Settings.{option_of, latch_of, config_of, config_fits, stay_of, stay_fits, FitsStay, run_options_of, stay_alone_of, every_of, every_fits, FitsEvery};
+ghost use Rattle.or_command_line.specs.Settings.{option_of, flag_of, latch_of, config_of, config_fits, stay_of, stay_fits, FitsStay, run_options_of, stay_alone_of, every_of, every_fits, FitsEvery};
 
 use crate::RunOptions;
 use or_text::numerals::read_decimal;
@@ -28,6 +28,20 @@ fn option<'a>(name: &str, default: u32, words: &'a [String]) -> Option<(u32, &'a
     match read_decimal(value.as_bytes()) {
         Some(number) => Some((number, rest)),
         None => None,
+    }
+}
+
+// Whether this option without a number stands here; the words behind it.
+fn flag<'a>(name: &str, words: &'a [String]) -> (bool, &'a [String])
+    ensures { flag_of name.now (texts words.now) ≡ (result.0, texts result.1.now) }
+{
+    let Some((word, rest)) = words.split_first() else {
+        return (false, words);
+    };
+    if word.as_str() == name {
+        (true, rest)
+    } else {
+        (false, words)
     }
 }
 
@@ -129,8 +143,13 @@ pub(crate) fn run_options(words: &[String]) -> Option<RunOptions>
     let Some((stay, rest)) = stay(rest) else {
         return None;
     };
+    let (status, rest) = flag("--status", rest);
     if rest.is_empty() {
-        Some(RunOptions { config, stay })
+        Some(RunOptions {
+            config,
+            stay,
+            status,
+        })
     } else {
         None
     }

@@ -13,33 +13,55 @@ fn words(alloc: Global, line: &str) -> Result<Vec<String>, AllocError> {
 
 #[test]
 fn options_of_a_run_are_read(rt: HostRuntime) -> Result<(), Fail> {
-    let cases: [(&str, (u32, u32, u32, bool), u32); 8] = [
-        ("run a - c d", (1, 1_000_000, 32, false), 256),
-        ("run a b c d --cores 8", (8, 1_000_000, 32, false), 256),
+    let cases: [(&str, (u32, u32, u32, bool), (u32, bool)); 10] = [
+        ("run a - c d", (1, 1_000_000, 32, false), (256, false)),
+        (
+            "run a b c d --cores 8",
+            (8, 1_000_000, 32, false),
+            (256, false),
+        ),
         (
             "run a b c d --budget 67108864 --ram 1",
             (1, 67_108_864, 1, false),
-            256,
+            (256, false),
         ),
         (
             "run a a c d --cores 2 --budget 1 --ram 256 --pic latched",
             (2, 1, 256, true),
-            256,
+            (256, false),
         ),
-        ("run a b c d --pic latched", (1, 1_000_000, 32, true), 256),
-        ("run a b c d --stay 1", (1, 1_000_000, 32, false), 1),
+        (
+            "run a b c d --pic latched",
+            (1, 1_000_000, 32, true),
+            (256, false),
+        ),
+        (
+            "run a b c d --stay 1",
+            (1, 1_000_000, 32, false),
+            (1, false),
+        ),
         (
             "run a b c d --cores 8 --stay 4096",
             (8, 1_000_000, 32, false),
-            4096,
+            (4096, false),
         ),
         (
             "run a b c d --ram 1 --pic latched --stay 7",
             (1, 1_000_000, 1, true),
-            7,
+            (7, false),
+        ),
+        (
+            "run a b c d --status",
+            (1, 1_000_000, 32, false),
+            (256, true),
+        ),
+        (
+            "run a b c d --pic latched --stay 2 --status",
+            (1, 1_000_000, 32, true),
+            (2, true),
         ),
     ];
-    for (line, (cores, budget, ram, latched), stay) in cases {
+    for (line, (cores, budget, ram, latched), (stay, status)) in cases {
         let words = words(rt.alloc(), line)?;
         let Some(Command::Run(run)) = parse(&words) else {
             return Err(Fail::from("no run"));
@@ -58,6 +80,7 @@ fn options_of_a_run_are_read(rt: HostRuntime) -> Result<(), Fail> {
             "{line}"
         );
         assert_eq!(rt; run.options.stay, stay, "{line}");
+        assert_eq!(rt; run.options.status, status, "{line}");
     }
     Ok(())
 }
@@ -197,6 +220,12 @@ fn other_words_are_no_command(rt: HostRuntime) -> Result<(), Fail> {
         "run a b c d --stay 1 --stay 1",
         "run a b c d --stay 1 --pic latched",
         "run a b c d --stay 1 e",
+        "run a b c d --status 1",
+        "run a b c d --status --status",
+        "run a b c d --status --stay 1",
+        "run a b c --status",
+        "replay a b c d --status",
+        "bench 1 1 1 a --status",
         "run -a b c d",
         "run a --b c d",
         "run a b - d",

@@ -1,16 +1,23 @@
 -- What the command `run` loads, checks and writes.
-use Rattle.std.specs.Prelude.{◌≡◌, ℕ, List, [], ◌∷◌, Option, length}
+use Rattle.std.specs.Prelude.{◌≡◌, ℕ, ◌==◌, List, [], ◌∷◌, Option, Some, None, Bool, true, false, not, ◌&&◌, if◌then◌else◌, length}
 use Rattle.or_words.specs.declared.Config.{Config}
 use Rattle.or_words.specs.Settings.{ram_bytes}
 use Rattle.or_elf.specs.Fault.{elf_fault}
 use Rattle.or_sched.specs.declared.recording.Head.{Head}
+use Rattle.or_model.specs.declared.Stop.{Stop}
+use Rattle.or_model.specs.declared.Stop.TheVariants.{Exit, Budget}
+use Rattle.or_model.specs.Core.{Core}
 use Rattle.or_model.specs.Turn.{Board}
 use Rattle.or_replay.specs.Start.{start}
 use Rattle.or_replay.specs.Report.{report_text}
+use Rattle.or_host.specs.HostState.{HostState}
+use Rattle.or_command_line.specs.declared.RunOptions.{RunOptions}
 use Rattle.or_command_line.specs.Names.{Names}
 use Rattle.or_command.specs.Loads.{Load}
 use Rattle.or_command.specs.Writes.{File}
 use Rattle.or_command.specs.Ends.{FailedCheck}
+use Rattle.or_command.specs.Outcomes.{LeavesAll}
+use Rattle.or_command.specs.Answered.{Answers, IsDecided}
 use Rattle.or_command_image.specs.Loaded.{image_loads, image_in, input_in, image_check}
 use Rattle.or_command_run.specs.Recorded.{head_of, IsRecorded}
 
@@ -21,18 +28,47 @@ run_loads names = image_loads names.image names.input
 abbrev pub run_check : Names → Config → List (List ℕ) → Option FailedCheck
 run_check names config files = image_check names.image (elf_fault (image_in files) (ram_bytes config))
 
--- a recorded run from a start, and the report of the board to which it leads
-pub record IsRunFrom (first : Board) (head : Head) (recording report console : List ℕ) : Type 0 where
+-- a core fails that stops by its budget, or with an exit value that is not 0
+abbrev pub fails : Option Stop → Bool
+fails None = false
+fails (Some Budget) = true
+fails (Some (Exit value)) = not (value == 0)
+
+abbrev pub some_core_fails : List Core → Bool
+some_core_fails [] = false
+some_core_fails (core ∷ cores) = if fails core.stop then true else some_core_fails cores
+
+-- a recorded run from a start, the report of the board to which it leads, and whether a core failed
+pub record IsRunFrom (first : Board) (head : Head) (recording report console : List ℕ) (failed : Bool) : Type 0 where
   pub run : IsRecorded first head recording console
   pub reported : report ≡ report_text run.last (length run.schedule)
+  pub failed_is : failed ≡ some_core_fails run.last.cores
 
 -- the same of the run of an image with an input
-abbrev pub IsRun : Config → List ℕ → List ℕ → List ℕ → List ℕ → List ℕ → Type 0
-IsRun config image input recording report console = IsRunFrom (start config image input) (head_of config image input) recording report console
+abbrev pub IsRun : Config → List ℕ → List ℕ → List ℕ → List ℕ → List ℕ → Bool → Type 0
+IsRun config image input recording report console failed = IsRunFrom (start config image input) (head_of config image input) recording report console failed
 
--- the files and the console that a run of these settings on these files writes
-pub record RunWrites (names : Names) (config : Config) (files : List (List ℕ)) (outs : List File) (console : List ℕ) : Type 0 where
+-- the files and the console that a run of these settings on these files writes, where a core fails or none does
+pub record RunWrites (names : Names) (config : Config) (failed : Bool) (files : List (List ℕ)) (outs : List File) (console : List ℕ) : Type 0 where
   pub recording : List ℕ
   pub report : List ℕ
-  pub is_run : IsRun config (image_in files) (input_in files) recording report console
+  pub is_run : IsRun config (image_in files) (input_in files) recording report console failed
   pub outputs : outs ≡ record { name = names.schedule; text = recording } ∷ record { name = names.report; text = report } ∷ []
+
+-- with `--status` 15 stands for 0 where a core failed
+abbrev pub run_status : Bool → Bool → ℕ → ℕ
+run_status asked failed status = if (asked && failed) && status == 0 then 15 else status
+
+-- what the command answers, and what stands then
+pub record RunAnswers (names : Names) (options : RunOptions) (status : ℕ) (old new : HostState) : Type 0 where
+  pub failed : Bool
+  pub plain : ℕ
+  pub status_is : status ≡ run_status options.status failed plain
+  pub answers : Answers (run_loads names) (run_check names options.config) (RunWrites names options.config failed) LeavesAll plain old new
+
+-- where no fault came, the files decide the status, or memory ran out; with `--status` 15 may stand for 0
+pub record RunDecided (names : Names) (options : RunOptions) (status : ℕ) (old new : HostState) : Type 0 where
+  pub failed : Bool
+  pub plain : ℕ
+  pub status_is : status ≡ run_status options.status failed plain
+  pub decided : IsDecided (run_loads names) (run_check names options.config) (RunWrites names options.config failed) LeavesAll plain old new

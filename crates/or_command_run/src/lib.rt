@@ -6,4 +6,4 @@ mod opened;
 mod running;
 
 pub use benching::bench;
-pub use running::run;
+pub use running::{RunEnd, run, run_status};

@@ -16,14 +16,16 @@ ghost use Rattle.or_command_image.specs.Loaded.{image_in as image_of};
 ghost use Rattle.or_command.specs.Finishing.{WriteEnds};
 ghost use Rattle.or_command.specs.Answered.{FinishEnds};
 ghost use Rattle.or_command_run.specs.Recorded.{RunFails};
-ghost use Rattle.or_command_run.specs.Run.{run_loads, run_check, IsRun, IsRunFrom, RunWrites};
+ghost use Rattle.or_command_run.specs.Run.{run_loads, run_check, fails, some_core_fails, IsRun, IsRunFrom, RunWrites, run_status};
 
 use crate::opened::{head, refused};
 use or_board::Gate;
 use or_command::{LoadStop, Outcome, Output, write_outputs};
 use or_command_image::{image_in, input_in, load_image};
 use or_command_line::{Run, RunOptions};
+use or_core::Core;
 use or_host::Host;
+use or_model::Stop;
 use or_replay::{OpenFault, report};
 use or_sched::Head;
 use or_turn::Closed;
@@ -32,12 +34,57 @@ use std::alloc::Global;
 use std::sync::Wait;
 use std::thread::Threads;
 
-// What a run writes.
+/// How a run ended.
+#[derive(Clone, Copy)]
+pub struct RunEnd<'a> {
+    pub outcome: Outcome<'a>,
+    /// Whether a core failed: it stopped by its budget, or with an exit value that is not 0.
+    pub failed: bool,
+}
+
+// What a run writes, and whether a core failed.
 #[derive(Drop)]
 struct RunTexts {
     recording: Vec<u8>,
     report: Vec<u8>,
     console: Vec<u8>,
+    failed: bool,
+}
+
+// Whether a core fails that stops so.
+fn is_failure(stop: Option<Stop>) -> bool
+    ensures { result ≡ fails stop }
+{
+    match stop {
+        Some(Stop::Budget) => true,
+        Some(Stop::Exit(value)) => value != 0,
+        None => false,
+    }
+}
+
+// Whether one of these cores fails.
+fn has_failed(cores: &[Core]) -> bool
+    ensures { result ≡ some_core_fails cores.now }
+{
+    let mut rest = cores;
+    while let Some((core, others)) = rest.split_first() {
+        if is_failure(core.stop()) {
+            return true;
+        }
+        rest = others;
+    }
+    false
+}
+
+/// The exit status of a run that ended with this one: 15 in place of 0 where a core failed and that is asked for.
+pub fn run_status(asked: bool, failed: bool, status: u8) -> u8
+    ensures { result ≡ run_status asked failed status }
+{
+    if asked && failed && status == 0 {
+        15
+    } else {
+        status
+    }
 }
 
 // The texts of a run that has come to its end.
@@ -48,7 +95,7 @@ fn texts(alloc: Global, head: &Head, closed: Closed) -> Result<RunTexts, NoMemor
     requires marks { AreMarks closed.schedule.items closed.marks.items }
     requires order { AreOfBus closed.cores.items closed.bus }
     ensures { IfOk result (λ texts. (start : BoardModel) → IsThreadedRun start closed
-        → IsRunFrom start head.now texts.recording.items texts.report.items texts.console.items) }
+        → IsRunFrom start head.now texts.recording.items texts.report.items texts.console.items texts.failed) }
 {
     let Closed {
         cores,
@@ -58,6 +105,7 @@ fn texts(alloc: Global, head: &Head, closed: Closed) -> Result<RunTexts, NoMemor
     } = closed;
     let mut recording = Vec::new(alloc);
     or_sched::write(head, &schedule, &marks, &mut recording)?;
+    let failed = has_failed(cores.as_slice());
     let mut text = Vec::new(alloc);
     let console = report(
         alloc,
@@ -70,6 +118,7 @@ fn texts(alloc: Global, head: &Head, closed: Closed) -> Result<RunTexts, NoMemor
         recording,
         report: text,
         console,
+        failed,
     })
 }
 
@@ -87,7 +136,7 @@ fn make<R: Threads + Wait + Sync, G: Gate + Sync>(
     requires stay { FitsStay options.now.stay }
     requires limit { length image.now ≤ 67108864 }
     ensures run { MatchResult result
-        (λ texts. (elf_fault image.now (ram_bytes options.now.config) ≡ None) × IsRun options.now.config image.now input.now texts.recording.items texts.report.items texts.console.items)
+        (λ texts. (elf_fault image.now (ram_bytes options.now.config) ≡ None) × IsRun options.now.config image.now input.now texts.recording.items texts.report.items texts.console.items texts.failed)
         (λ fault. RunFails image.now (ram_bytes options.now.config) fault) }
 {
     let Ok(bytes) = Vec::from_slice(alloc, input) else {
@@ -111,12 +160,12 @@ fn finish<'a, R: Threads + Wait + Sync, H: Host, G: Gate + Sync>(
     files: &[Vec<u8>],
     host: &mut H,
     gate: &G,
-) -> Outcome<'a>
+) -> RunEnd<'a>
     requires names { AreWritten (run_names words.now) }
     requires fits { Fits words.now.options.config }
     requires stay { FitsStay words.now.options.stay }
     requires limit { length (image_of (bytes_of files.now)) ≤ 67108864 }
-    ensures outcome { FinishEnds (run_check (run_names words.now) words.now.options.config) (RunWrites (run_names words.now) words.now.options.config) (bytes_of files.now) (end_of result) (H.state host.old) (H.state host.new) }
+    ensures outcome { FinishEnds (run_check (run_names words.now) words.now.options.config) (RunWrites (run_names words.now) words.now.options.config result.failed) (bytes_of files.now) (end_of result.outcome) (H.state host.old) (H.state host.new) }
     ensures silent { Silent (H.state host.old) (H.state host.new) }
 {
     match make(
@@ -127,8 +176,14 @@ fn finish<'a, R: Threads + Wait + Sync, H: Host, G: Gate + Sync>(
         input_in(files),
         gate,
     ) {
-        Ok(texts) => write(words, &texts, host),
-        Err(fault) => refused(words.image, fault),
+        Ok(texts) => RunEnd {
+            outcome: write(words, &texts, host),
+            failed: texts.failed,
+        },
+        Err(fault) => RunEnd {
+            outcome: refused(words.image, fault),
+            failed: false,
+        },
     }
 }
 
@@ -158,19 +213,28 @@ pub fn run<'a, R: Threads + Wait + Sync, H: Host, G: Gate + Sync>(
     words: &Run<'a>,
     host: &mut H,
     gate: &G,
-) -> Outcome<'a>
+) -> RunEnd<'a>
     requires names { AreWritten (run_names words.now) }
     requires fits { Fits words.now.options.config }
     requires stay { FitsStay words.now.options.stay }
-    ensures outcome { CommandOutcome (run_loads (run_names words.now)) (run_check (run_names words.now) words.now.options.config) (RunWrites (run_names words.now) words.now.options.config) LeavesAll
-        (end_of result) (H.state host.old) (H.state host.new) }
+    ensures outcome { CommandOutcome (run_loads (run_names words.now)) (run_check (run_names words.now) words.now.options.config) (RunWrites (run_names words.now) words.now.options.config result.failed) LeavesAll
+        (end_of result.outcome) (H.state host.old) (H.state host.new) }
     ensures silent { Silent (H.state host.old) (H.state host.new) }
 {
     let mut files = Vec::new(alloc);
     match load_image(alloc, host, words.image, words.input, &mut files) {
         Ok(()) => finish(rt, alloc, words, files.as_slice(), host, gate),
-        Err(LoadStop::Unread(name)) => Outcome::Unread(name),
-        Err(LoadStop::TooLong(name, limit)) => Outcome::TooLong(name, limit),
-        Err(LoadStop::NoMemory) => Outcome::NoMemory,
+        Err(LoadStop::Unread(name)) => RunEnd {
+            outcome: Outcome::Unread(name),
+            failed: false,
+        },
+        Err(LoadStop::TooLong(name, limit)) => RunEnd {
+            outcome: Outcome::TooLong(name, limit),
+            failed: false,
+        },
+        Err(LoadStop::NoMemory) => RunEnd {
+            outcome: Outcome::NoMemory,
+            failed: false,
+        },
     }
 }

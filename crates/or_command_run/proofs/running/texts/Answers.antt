@@ -1,12 +1,13 @@
 use Rattle.std.proofs.Common.{◌≡◌, ◌∙◌, ◌++◌, ap, length, arith}
 use Rattle.or_sched.specs.RecText.{rec_text2}
 use Rattle.or_replay.specs.Report.{report_text}
+use Rattle.or_command_run.specs.Run.{some_core_fails}
 use Rattle.or_command_run.proofs.running.texts.Goals as goal
 
 pub returns : goal.returns
 returns c = λ start run.
     let count : c.len.result ≡ length c.args.closed.schedule.items = omega (arith, c.len.ensures, c.deref.ensures.len, ap length c.deref.ensures.value) in
-    let told = c.in_ok-console.ensures.ok run.last (c.as_slice.ensures.value ∙ run.is.same_cores) run.is.represents in record {
+    let told = c.in_ok-console.ensures.ok run.last (c.as_slice-2.ensures.value ∙ run.is.same_cores) run.is.represents in record {
       run = record {
         schedule = c.args.closed.schedule.items;
         last = run.last;
@@ -15,5 +16,6 @@ returns c = λ start run.
         recorded = c.in_ok-write.ensures.ok ∙ (λ i. rec_text2 c.args.head.now (c.deref.ensures.value i) ((c.deref-2.ensures.value ∙ run.marks_are) i));
         shown = told.0;
       };
+      failed_is = c.has_failed-failed.ensures ∙ ap some_core_fails (c.as_slice.ensures.value ∙ run.is.same_cores);
       reported = told.1 ∙ (λ i. c.new-text.ensures.items i ++ report_text run.last (count i));
     }
