@@ -39,6 +39,3 @@ pub fn assemble(alloc: Global, text: &[u8], out: &mut Program) -> Result<(), Asm
         Err(fault) => Err(fault),
     }
 }
-
-#[cfg(test)]
-mod tests;

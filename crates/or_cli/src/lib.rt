@@ -6,12 +6,3 @@ mod commands;
 pub use commands::{top, top_alone, top_run};
 pub use or_board::{Gate, OpenGate};
 pub use or_host::{Blame, Deed, Failed, FileHost, Host, LoadFail, MemHost, SureHost};
-
-#[cfg(test)]
-mod bench_tests;
-#[cfg(test)]
-mod replay_tests;
-#[cfg(test)]
-mod status_tests;
-#[cfg(test)]
-mod tests;

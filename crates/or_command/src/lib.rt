@@ -13,6 +13,3 @@ pub use loading::{Input, LoadStop, load_files};
 pub use outcome::Outcome;
 pub use refusal::{Digests, Refusal, ScheduleDetail};
 pub use writing::{Output, write_files, write_outputs};
-
-#[cfg(test)]
-mod tests;

@@ -4,6 +4,3 @@
 mod going_back;
 
 pub use going_back::back;
-
-#[cfg(test)]
-mod tests;

@@ -3,10 +3,12 @@
 #![tactic(auto)]
 
 mod bytes;
+mod calls;
 mod fault;
 mod parsed;
 mod stage;
 
+use calls::{real_files, sure_files};
 use fault::CaseFault;
 use stage::Stage;
 use std::fs;
@@ -14,7 +16,8 @@ use std::process::ExitCode;
 use std::sync::Wait;
 use std::thread::Threads;
 
-const FILES: [&str; 5] = [
+const FILES: [&str; 6] = [
+    "host.cases",
     "images.cases",
     "line.cases",
     "source.cases",
@@ -34,6 +37,12 @@ fn go_through<R: Print + Threads + Wait + Sync>(
     Ok(())
 }
 
+// The hosts that are not in memory, or not of files alone.
+fn other_hosts(rt: &HostRuntime) -> Result<(), CaseFault> {
+    sure_files(rt)?;
+    real_files(rt)
+}
+
 fn main(rt: HostRuntime) -> ExitCode {
     let mut stage = Stage::new(rt.alloc());
     for name in FILES {
@@ -45,6 +54,10 @@ fn main(rt: HostRuntime) -> ExitCode {
             let _ = println!(rt; "{name}: {fault}");
             return ExitCode::from(1);
         }
+    }
+    if let Err(fault) = other_hosts(&rt) {
+        let _ = println!(rt; "{fault}");
+        return ExitCode::from(1);
     }
     ExitCode::from(0)
 }

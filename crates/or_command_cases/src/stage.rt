@@ -1,5 +1,6 @@
 // What a case works on, and the lines that it is made of.
 use crate::bytes::{read, shown};
+use crate::calls::call;
 use crate::fault::CaseFault;
 use crate::parsed::print_parsed;
 use or_cli::{MemHost, OpenGate, top, top_alone, top_run};
@@ -96,6 +97,8 @@ impl Stage {
             ),
             "size" => size(rt, &self.host, name),
             "same" => same(rt, &self.host, name, text),
+            "call" => call(rt, self.alloc, &mut self.host, rest),
+            "texts" => texts(rt, self.alloc, &self.host),
             "memory" => without_memory(rt, self.alloc, &mut self.host),
             "shelve" => command(rt, self.alloc, &mut self.shelf, Call::Alone, rest),
             _ => self.change_files(verb, name, text),
@@ -223,6 +226,12 @@ fn print_text<R: Print>(rt: &R, alloc: Global, what: &str, bytes: &[u8]) -> Resu
         println!(rt; "    {what} {text}")?;
     }
     Ok(())
+}
+
+// Prints all that was said and written out.
+fn texts<R: Print>(rt: &R, alloc: Global, host: &MemHost) -> Result<(), CaseFault> {
+    print_text(rt, alloc, "said", host.said())?;
+    print_text(rt, alloc, "written", host.written())
 }
 
 // Prints what a file holds.

@@ -6,6 +6,3 @@ mod scripts;
 
 pub use debugging::debug;
 pub use scripts::{load_debugged, refuse_script, script_in};
-
-#[cfg(test)]
-mod tests;

@@ -128,6 +128,3 @@ fn parse_program<'a>(verb: &str, words: &'a [String]) -> Option<Command<'a>>
         _ => None,
     }
 }
-
-#[cfg(test)]
-mod tests;

@@ -6,6 +6,3 @@ pub mod laws;
 mod profiling;
 
 pub use profiling::prof;
-
-#[cfg(test)]
-mod tests;

@@ -6,6 +6,3 @@ pub mod laws;
 mod racing;
 
 pub use racing::race;
-
-#[cfg(test)]
-mod tests;

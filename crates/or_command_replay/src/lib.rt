@@ -11,6 +11,3 @@ pub use checked::{Checked, Recording, RunFault, check, open_board};
 pub use refused::refuse;
 pub use replaying::replay;
 pub use telling::tell;
-
-#[cfg(test)]
-mod tests;

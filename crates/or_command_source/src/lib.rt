@@ -10,6 +10,3 @@ mod listing;
 pub use assembly::{asm, program_file, refuse_source};
 pub use disassembly::dis;
 pub use generation::generate;
-
-#[cfg(test)]
-mod tests;

@@ -13,6 +13,3 @@ pub use or_script::{ScriptFault, check};
 pub use points::{Breakpoint, Watchpoint, look};
 pub use shown::{append_lines, append_memory, append_registers};
 pub use turns::{MadeTurn, append_made};
-
-#[cfg(test)]
-mod tests;

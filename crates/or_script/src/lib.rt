@@ -12,6 +12,3 @@ pub use cutting::cut;
 pub use fault::ScriptFault;
 pub use operands::{core_number, number};
 pub use script::{Points, add_point, at_line, check, command_at, commands};
-
-#[cfg(test)]
-mod tests;
