@@ -18,5 +18,3 @@ pub use sure::SureHost;
 
 #[cfg(test)]
 mod real_tests;
-#[cfg(test)]
-mod tests;
