@@ -9,4 +9,3 @@ pub mod Schedules
 pub mod Followed
 pub mod Followable
 pub mod FirstRefusal
-pub mod Unmarked

@@ -13,6 +13,3 @@ pub use board::{Board, Refused};
 pub use follow::TurnFault;
 pub use opening::OpenFault;
 pub use reporting::{core_text, report};
-
-#[cfg(test)]
-mod tests;

@@ -1,6 +1,5 @@
 pub mod RunLemmas
 pub mod ExpandLemmas
-pub mod Zeros
 pub mod Numbers
 pub mod Steps
 pub mod Fields

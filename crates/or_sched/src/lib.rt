@@ -8,8 +8,6 @@ mod reader;
 mod recording;
 mod state;
 mod step;
-#[cfg(test)]
-mod tests;
 mod writer;
 
 pub use reader::Reader;
