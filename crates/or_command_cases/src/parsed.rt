@@ -1,6 +1,6 @@
 // A command line as the grammar reads it: the command with the names of its files and its numbers.
 use crate::fault::CaseFault;
-use or_command_line::{Command, Recorded, Run, Workload, parse};
+use or_command_line::{Command, Recorded, Run, RunOptions, Workload, parse};
 
 fn print_run<R: Print>(rt: &R, run: &Run<'_>) -> Result<(), CaseFault> {
     let Run {
@@ -8,14 +8,20 @@ fn print_run<R: Print>(rt: &R, run: &Run<'_>) -> Result<(), CaseFault> {
         input,
         schedule,
         report,
-        config,
+        options,
     } = run;
+    let RunOptions {
+        config,
+        stay,
+        status,
+    } = options;
     print!(rt;
         "run {image} {input} {schedule} {report} cores {} budget {}",
         config.cores, config.budget
     )?;
     let form = if config.latched { "latched" } else { "level" };
-    println!(rt; " ram {} pic {form}", config.ram)?;
+    print!(rt; " ram {} pic {form} stay {stay}", config.ram)?;
+    println!(rt; "{}", if *status { " status" } else { "" })?;
     Ok(())
 }
 
@@ -40,16 +46,24 @@ fn print_workload<R: Print>(
         cores,
         rounds,
     } = workload;
-    println!(rt; "{verb} seed {seed} cores {cores} rounds {rounds} {name}")?;
+    print!(rt; "{verb} seed {seed} cores {cores} rounds {rounds} {name}")?;
     Ok(())
 }
 
 fn print_command<R: Print>(rt: &R, command: &Command<'_>) -> Result<(), CaseFault> {
     match command {
         Command::Run(run) => return print_run(rt, run),
-        Command::Gen { workload, source } => return print_workload(rt, "gen", workload, source),
-        Command::Bench { workload, schedule } => {
-            return print_workload(rt, "bench", workload, schedule);
+        Command::Gen { workload, source } => {
+            print_workload(rt, "gen", workload, source)?;
+            println!(rt; "")?;
+        }
+        Command::Bench {
+            workload,
+            schedule,
+            stay,
+        } => {
+            print_workload(rt, "bench", workload, schedule)?;
+            println!(rt; " stay {stay}")?;
         }
         Command::Asm { source, image } => println!(rt; "asm {source} {image}")?,
         Command::Dis { image } => println!(rt; "dis {image}")?,
