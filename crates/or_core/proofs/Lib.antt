@@ -1,8 +1,10 @@
 pub mod Accesses
 pub mod Aligned
 pub mod Begins
+pub mod Controls
 pub mod Nexts
 pub mod Pages
 pub mod Progress
+pub mod Quiets
 pub mod Traces
 mod Vectors

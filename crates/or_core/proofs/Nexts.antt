@@ -1,21 +1,25 @@
 -- A held word and the instruction beside it.
 use Rattle.std.proofs.Common.{◌≡◌, ℕ, Bool, true, false, Option, Some, None, refl, ap, sym, subst}
 use Rattle.std.specs.Prelude.{not, option_map, option_and_then}
-use Rattle.std.specs.Option.{option_or}
+use Rattle.std.specs.Option.{option_or, ForSome}
 use Rattle.or_isa.specs.declared.Insn.{Insn}
 use Rattle.or_isa.specs.Decode.{decode_of}
+use Rattle.or_isa.specs.Fits.{Fits}
+use Rattle.or_model.specs.declared.Route.TheVariants.{At}
 use Rattle.or_model.specs.Core.{Core}
 use Rattle.or_model.specs.World.{World}
-use Rattle.or_model.specs.Step.{step_by_held, step_by_insn, step_by_word, is_private_word, wants_bus}
-use Rattle.or_core.specs.Access.{access_of_insn, access_of_word, word_fetched}
+use Rattle.or_model.specs.Routes.{fetch_route, cached_instruction}
+use Rattle.or_model.specs.Step.{step, step_by_held, step_by_insn, step_by_word, is_private, is_private_word, wants_bus, due_interrupt}
+use Rattle.or_core.specs.Access.{access_of_insn, access_of_word, word_fetched, step_access}
+use Rattle.or_core.specs.Next.{IsExecuted}
 
 -- what a held word says is what the instruction beside it says
-pub record IsBeside (core : Core) (pa : ℕ) (cached : Bool) (word : Option ℕ) (insn : Option Insn) : Type 0 where
-  pub alone : is_private_word core word ≡ not (wants_bus core insn)
-  pub state : (world : World) → step_by_held core world pa cached word ≡ step_by_insn core world insn
-  pub access : (world : World) → option_and_then (access_of_word core world) (option_or word (word_fetched world pa cached)) ≡ access_of_insn core world insn
+record IsBeside (core : Core) (pa : ℕ) (cached : Bool) (word : Option ℕ) (insn : Option Insn) : Type 0 where
+  alone : is_private_word core word ≡ not (wants_bus core insn)
+  state : (world : World) → step_by_held core world pa cached word ≡ step_by_insn core world insn
+  access : (world : World) → option_and_then (access_of_word core world) (option_or word (word_fetched world pa cached)) ≡ access_of_insn core world insn
 
-pub beside : (core : Core) (pa : ℕ) (cached : Bool) (word : Option ℕ) (insn : Option Insn) → option_map decode_of word ≡ Some insn → IsBeside core pa cached word insn
+beside : (core : Core) (pa : ℕ) (cached : Bool) (word : Option ℕ) (insn : Option Insn) → option_map decode_of word ≡ Some insn → IsBeside core pa cached word insn
 unfolding step_by_word access_of_word
 beside core pa cached None insn is = absurd (none_is_some is)
   where
@@ -26,3 +30,16 @@ beside core pa cached (Some word) insn is =
   where
     same : {X : Type 0} {x y : X} → Some x ≡ Some y → x ≡ y
     same e = cc
+
+-- where no interrupt is due and the fetch finds an instruction beside a held word, the step executes it
+pub executed-beside : (core : Core) (pa : ℕ) (cached : Bool) (insn : Option Insn) → due_interrupt core ≡ None → fetch_route core ≡ At pa cached
+    → option_map decode_of (cached_instruction core pa cached) ≡ Some insn → ForSome insn Fits → IsExecuted core insn
+unfolding is_private step step_access
+executed-beside core pa cached insn due route found fits =
+    let known : IsBeside core pa cached (cached_instruction core pa cached) insn = beside core pa cached (cached_instruction core pa cached) insn found in
+    record {
+      alone = rw (due, route) known.alone;
+      state = λ world. rw (due, route) (known.state world);
+      access = λ world. rw (due, route) (known.access world);
+      fits = fits;
+    }

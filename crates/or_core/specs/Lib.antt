@@ -2,3 +2,4 @@ pub mod Follows
 pub mod PrivateStep
 pub mod Access
 pub mod Next
+pub mod Quiet

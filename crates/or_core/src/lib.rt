@@ -6,6 +6,7 @@ mod data_access;
 mod execute;
 mod next;
 mod private;
+mod quiet;
 mod results;
 mod special;
 mod state;

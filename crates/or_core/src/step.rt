@@ -58,7 +58,7 @@ impl Core {
     // Whether an instruction may not stand where it does, or not in this mode.
     #[inline(always)]
     #[tactic(auto, unfolding(or_model::specs::Step::is_misplaced))]
-    fn is_misplaced(&self, insn: &Insn) -> bool
+    pub(crate) fn is_misplaced(&self, insn: &Insn) -> bool
         ensures { result ≡ is_misplaced self.now insn.now }
     {
         match insn {

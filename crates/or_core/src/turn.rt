@@ -24,7 +24,11 @@ impl Core {
         ensures running { IsTrue result → self.new.stop ≡ None }
         ensures settings { SameSettings self.old self.new }
     {
-        for made in 0..256u32 {
+        let quiet = self.quiet_steps();
+        if quiet.asks_bus {
+            return true;
+        }
+        for made in quiet.made..256 {
             match self.try_private() {
                 Private::Stepped => {}
                 Private::NeedsBus => return true,

@@ -1,0 +1,259 @@
+-- A plain instruction leaves a quiet core quiet.
+use Rattle.std.proofs.Common.{◌≡◌, ℕ, ◌-◌, ◌/◌, ◌+◌, ◌<◌, Bool, true, false, cond, refl, ap, sym, ◌∙◌, subst, arith, rules}
+use Rattle.std.specs.Prelude.{Some, None, Result, Ok, Err, IfOk, slice_set, Option, ◌==◌, ℤ, not, ◌&&◌, bit_and}
+use Rattle.std.proofs.lemmas.Nat.{and_or_apart, and_assoc}
+use Rattle.or_words.specs.declared.ShiftKind.{ShiftKind}
+use Rattle.or_words.specs.declared.ExtendKind.{ExtendKind}
+use Rattle.or_words.specs.declared.CompareCode.{CompareCode}
+use Rattle.or_words.specs.declared.MacKind.{MacKind}
+use Rattle.or_isa.specs.declared.Insn.{Insn}
+use Rattle.or_isa.specs.declared.Insn.TheVariants.{J, Jal, Bnf, Bf, Adrp, Nop, Sys, Trap, Movhi, Macrc, Msync, Psync, Csync, Rfe, Jr, Jalr, Maci, Lwa, Lwz, Lws, Lbz, Lbs, Lhz, Lhs, Addi, Addic, Xori, Muli, Andi, Ori, Mfspr, Slli, Srli, Srai, Rori, Sfeqi, Sfnei, Sfgtui, Sfgeui, Sfltui, Sfleui, Sfgtsi, Sfgesi, Sfltsi, Sflesi, Mtspr, Mac, Msb, Macu, Msbu, Swa, Sw, Sb, Sh, Add, Addc, Sub, And, Or, Xor, Cmov, Mul, Div, Divu, Mulu, Sll, Srl, Sra, Ror, Muld, Muldu, Ff1, Fl1, Exths, Extbs, Exthz, Extbz, Extws, Extwz, Sfeq, Sfne, Sfgtu, Sfgeu, Sfltu, Sfleu, Sfgts, Sfges, Sflts, Sfles}
+use Rattle.or_parts.specs.declared.Cause.{Cause}
+use Rattle.or_parts.specs.declared.Cause.TheVariants.{Range}
+use Rattle.or_parts.specs.Bits.{has, with_bits}
+use Rattle.or_parts.specs.Timer.{ticked, is_tick_pending}
+use Rattle.or_parts.specs.Interrupts.{is_pic_pending}
+use Rattle.or_model.specs.declared.Stop.TheVariants.{Exit}
+use Rattle.or_model.specs.Core.{Core, register, set_register, next_instruction, branched}
+use Rattle.or_model.specs.Execute.{put, with_carry, with_overflow, unless_overflow, put_with_flags, put_with_overflow, put_with_carry, put_sum, put_difference, put_product, put_quotient, put_unsigned_quotient, put_unsigned_product, put_shifted, put_extended, put_lowest_one, put_highest_one, put_chosen, put_flag, put_comparison, put_accumulator, accumulator_read, branched_where, called, after_nop, executed}
+use Rattle.or_core.specs.Quiet.{IsQuiet, SameControl, is_plain}
+
+SameControl-trans : {old middle new : Core} → SameControl old middle → SameControl middle new → SameControl old new
+SameControl-trans first second = record {
+  ttmr = second.ttmr ∙ first.ttmr;
+  picmr = second.picmr ∙ first.picmr;
+  picsr = second.picsr ∙ first.picsr;
+  status = second.status ∙ first.status;
+  stop = second.stop ∙ first.stop;
+}
+
+set_register-control : (core : Core) (n v : ℕ) → SameControl core (set_register core n v)
+set_register-control core n v =
+    elim (n == 0) as (λ b. SameControl core (cond b core (record core { registers = slice_set core.registers n v })))
+    [ true ↦ record { ttmr = refl; picmr = refl; picsr = refl; status = refl; stop = refl } | false ↦ record { ttmr = refl; picmr = refl; picsr = refl; status = refl; stop = refl } ]
+
+next_instruction-control : (core : Core) → SameControl core (next_instruction core)
+unfolding next_instruction
+next_instruction-control core = record { ttmr = refl; picmr = refl; picsr = refl; status = refl; stop = refl }
+
+branched-control : (core : Core) (to : ℕ) → SameControl core (branched core to)
+unfolding branched
+branched-control core to = record { ttmr = refl; picmr = refl; picsr = refl; status = refl; stop = refl }
+
+put-control : (core : Core) (d v : ℕ) → SameControl core (put core d v)
+unfolding put
+put-control core d v = SameControl-trans (set_register-control core d v) (next_instruction-control _)
+
+-- F, CY and OV are other bits of SR
+other_bits : (sr mask : ℕ) (on : Bool) → bit_and mask 0x56 ≡ 0 → bit_and (0xFFFFFFFF - mask) 0x56 ≡ 0x56 → bit_and (with_bits sr mask on) 0x56 ≡ bit_and sr 0x56
+other_bits sr mask true apart rest = and_or_apart 0x56 sr mask apart
+other_bits sr mask false apart rest = and_assoc 0x56 sr (0xFFFFFFFF - mask) ∙ ap (bit_and sr) rest
+
+with_status-control : (core : Core) (mask : ℕ) (on : Bool) → bit_and mask 0x56 ≡ 0 → bit_and (0xFFFFFFFF - mask) 0x56 ≡ 0x56 → SameControl core (record core { sr = with_bits core.sr mask on })
+with_status-control core mask on apart rest = record { ttmr = refl; picmr = refl; picsr = refl; status = other_bits core.sr mask on apart rest; stop = refl }
+
+unless_overflow-control : (core next : Core) (raises : Bool) → SameControl core next → IfOk (cond raises (Err Range) (Ok next)) (SameControl core)
+unless_overflow-control core next raises same =
+    elim raises as (λ b. IfOk (cond b (Err Range) (Ok next)) (SameControl core)) [ true ↦ tt | false ↦ same ]
+
+put_with_flags-control : (core : Core) (d v : ℕ) (cy ov : Bool) → IfOk (put_with_flags core d v cy ov) (SameControl core)
+unfolding put_with_flags
+put_with_flags-control core d v cy ov =
+    unless_overflow-control core _ _ (SameControl-trans (with_status-control core 0x400 cy refl refl) (SameControl-trans (with_status-control (with_carry core cy) 0x800 ov refl refl) (put-control _ d v)))
+
+put_with_overflow-control : (core : Core) (d v : ℕ) (ov : Bool) → IfOk (put_with_overflow core d v ov) (SameControl core)
+unfolding put_with_overflow
+put_with_overflow-control core d v ov = unless_overflow-control core _ _ (SameControl-trans (with_status-control core 0x800 ov refl refl) (put-control _ d v))
+
+put_with_carry-control : (core : Core) (d v : ℕ) (cy : Bool) → SameControl core (put_with_carry core d v cy)
+unfolding put_with_carry
+put_with_carry-control core d v cy = SameControl-trans (with_status-control core 0x400 cy refl refl) (put-control _ d v)
+
+put_sum-control : (core : Core) (d a b : ℕ) (c : Bool) → IfOk (put_sum core d a b c) (SameControl core)
+unfolding put_sum
+put_sum-control core d a b c = put_with_flags-control core d _ _ _
+
+put_difference-control : (core : Core) (d a b : ℕ) → IfOk (put_difference core d a b) (SameControl core)
+unfolding put_difference
+put_difference-control core d a b = put_with_flags-control core d _ _ _
+
+put_product-control : (core : Core) (d a b : ℕ) → IfOk (put_product core d a b) (SameControl core)
+unfolding put_product
+put_product-control core d a b = put_with_overflow-control core d _ _
+
+put_quotient-control : (core : Core) (d a b : ℕ) → IfOk (put_quotient core d a b) (SameControl core)
+unfolding put_quotient
+put_quotient-control core d a b = put_with_overflow-control core d _ _
+
+put_shifted-control : (core : Core) (d : ℕ) (kind : ShiftKind) (a n : ℕ) → SameControl core (put_shifted core d kind a n)
+unfolding put_shifted
+put_shifted-control core d kind a n = put-control core d _
+
+put_extended-control : (core : Core) (d : ℕ) (kind : ExtendKind) (a : ℕ) → SameControl core (put_extended core d kind a)
+unfolding put_extended
+put_extended-control core d kind a = put-control core d _
+
+put_lowest_one-control : (core : Core) (d a : ℕ) → SameControl core (put_lowest_one core d a)
+unfolding put_lowest_one
+put_lowest_one-control core d a = put-control core d _
+
+put_highest_one-control : (core : Core) (d a : ℕ) → SameControl core (put_highest_one core d a)
+unfolding put_highest_one
+put_highest_one-control core d a = put-control core d _
+
+put_chosen-control : (core : Core) (d a b : ℕ) → SameControl core (put_chosen core d a b)
+unfolding put_chosen
+put_chosen-control core d a b = put-control core d _
+
+put_unsigned_quotient-control : (core : Core) (d a b : ℕ) → SameControl core (put_unsigned_quotient core d a b)
+unfolding put_unsigned_quotient
+put_unsigned_quotient-control core d a b = put_with_carry-control core d _ _
+
+put_unsigned_product-control : (core : Core) (d a b : ℕ) → SameControl core (put_unsigned_product core d a b)
+unfolding put_unsigned_product
+put_unsigned_product-control core d a b = put_with_carry-control core d _ _
+
+put_comparison-control : (core : Core) (code : CompareCode) (a b : ℕ) → SameControl core (put_comparison core code a b)
+unfolding put_comparison put_flag
+put_comparison-control core code a b = SameControl-trans (with_status-control core 0x200 _ refl refl) (next_instruction-control _)
+
+with_accumulator-control : (core : Core) (hi lo : ℕ) → SameControl core (record core { machi = hi; maclo = lo })
+with_accumulator-control core hi lo = record { ttmr = refl; picmr = refl; picsr = refl; status = refl; stop = refl }
+
+put_accumulator-control : (core : Core) (kind : MacKind) (a b : ℕ) → SameControl core (put_accumulator core kind a b)
+unfolding put_accumulator
+put_accumulator-control core kind a b = SameControl-trans (with_accumulator-control core _ _) (next_instruction-control _)
+
+accumulator_read-control : (core : Core) (d : ℕ) → SameControl core (accumulator_read core d)
+unfolding accumulator_read
+accumulator_read-control core d = SameControl-trans (with_accumulator-control core 0 0) (put-control _ d _)
+
+branched_where-control : (core : Core) (taken : Bool) (n : ℤ) → SameControl core (branched_where core taken n)
+unfolding branched_where
+branched_where-control core taken n = branched-control core _
+
+called-control : (core : Core) (to : ℕ) → SameControl core (called core to)
+unfolding called
+called-control core to = SameControl-trans (set_register-control core 9 _) (branched-control _ to)
+
+after_nop-control : (core : Core) (k : ℕ) → not (k == 1) ≡ true → SameControl core (next_instruction (after_nop core k))
+unfolding after_nop
+after_nop-control core k other = by_number (k == 1) refl
+  where
+    by_number : (one : Bool) → (k == 1) ≡ one → SameControl core (next_instruction (cond (k == 1) (record core { stop = Some (Exit (register core 3)) }) core))
+    by_number true is = absurd (search (rules, is))
+    by_number false is = rw is (next_instruction-control core)
+
+-- whatever a plain instruction makes of a core
+pub executed-control : (insn : Insn) (core : Core) → is_plain insn ≡ true → IfOk (executed insn core) (SameControl core)
+unfolding executed
+executed-control (J n) core plain = branched-control core _
+executed-control (Jal n) core plain = called-control core _
+executed-control (Bnf n) core plain = branched_where-control core _ _
+executed-control (Bf n) core plain = branched_where-control core _ _
+executed-control (Adrp d n) core plain = put-control core _ _
+executed-control (Nop k) core plain = after_nop-control core k plain
+executed-control (Sys k) core plain = tt
+executed-control (Trap k) core plain = tt
+executed-control (Movhi d k) core plain = put-control core _ _
+executed-control (Macrc d) core plain = accumulator_read-control core _
+executed-control Msync core plain = next_instruction-control core
+executed-control Psync core plain = next_instruction-control core
+executed-control Csync core plain = next_instruction-control core
+executed-control Rfe core plain = absurd (search rules)
+executed-control (Jr b) core plain = branched-control core _
+executed-control (Jalr b) core plain = called-control core _
+executed-control (Maci a i) core plain = put_accumulator-control core _ _ _
+executed-control (Addi d a i) core plain = put_sum-control core _ _ _ _
+executed-control (Addic d a i) core plain = put_sum-control core _ _ _ _
+executed-control (Xori d a i) core plain = put-control core _ _
+executed-control (Muli d a i) core plain = put_product-control core _ _ _
+executed-control (Andi d a k) core plain = put-control core _ _
+executed-control (Ori d a k) core plain = put-control core _ _
+executed-control (Mfspr d a k) core plain = put-control core _ _
+executed-control (Slli d a l) core plain = put_shifted-control core _ _ _ _
+executed-control (Srli d a l) core plain = put_shifted-control core _ _ _ _
+executed-control (Srai d a l) core plain = put_shifted-control core _ _ _ _
+executed-control (Rori d a l) core plain = put_shifted-control core _ _ _ _
+executed-control (Sfeqi a i) core plain = put_comparison-control core _ _ _
+executed-control (Sfnei a i) core plain = put_comparison-control core _ _ _
+executed-control (Sfgtui a i) core plain = put_comparison-control core _ _ _
+executed-control (Sfgeui a i) core plain = put_comparison-control core _ _ _
+executed-control (Sfltui a i) core plain = put_comparison-control core _ _ _
+executed-control (Sfleui a i) core plain = put_comparison-control core _ _ _
+executed-control (Sfgtsi a i) core plain = put_comparison-control core _ _ _
+executed-control (Sfgesi a i) core plain = put_comparison-control core _ _ _
+executed-control (Sfltsi a i) core plain = put_comparison-control core _ _ _
+executed-control (Sflesi a i) core plain = put_comparison-control core _ _ _
+executed-control (Mtspr a b k) core plain = absurd (search rules)
+executed-control (Mac a b) core plain = put_accumulator-control core _ _ _
+executed-control (Msb a b) core plain = put_accumulator-control core _ _ _
+executed-control (Macu a b) core plain = put_accumulator-control core _ _ _
+executed-control (Msbu a b) core plain = put_accumulator-control core _ _ _
+executed-control (Add d a b) core plain = put_sum-control core _ _ _ _
+executed-control (Addc d a b) core plain = put_sum-control core _ _ _ _
+executed-control (Sub d a b) core plain = put_difference-control core _ _ _
+executed-control (And d a b) core plain = put-control core _ _
+executed-control (Or d a b) core plain = put-control core _ _
+executed-control (Xor d a b) core plain = put-control core _ _
+executed-control (Cmov d a b) core plain = put_chosen-control core _ _ _
+executed-control (Mul d a b) core plain = put_product-control core _ _ _
+executed-control (Div d a b) core plain = put_quotient-control core _ _ _
+executed-control (Divu d a b) core plain = put_unsigned_quotient-control core _ _ _
+executed-control (Mulu d a b) core plain = put_unsigned_product-control core _ _ _
+executed-control (Sll d a b) core plain = put_shifted-control core _ _ _ _
+executed-control (Srl d a b) core plain = put_shifted-control core _ _ _ _
+executed-control (Sra d a b) core plain = put_shifted-control core _ _ _ _
+executed-control (Ror d a b) core plain = put_shifted-control core _ _ _ _
+executed-control (Muld a b) core plain = put_accumulator-control core _ _ _
+executed-control (Muldu a b) core plain = put_accumulator-control core _ _ _
+executed-control (Ff1 d a) core plain = put_lowest_one-control core _ _
+executed-control (Fl1 d a) core plain = put_highest_one-control core _ _
+executed-control (Exths d a) core plain = put_extended-control core _ _ _
+executed-control (Extbs d a) core plain = put_extended-control core _ _ _
+executed-control (Exthz d a) core plain = put_extended-control core _ _ _
+executed-control (Extbz d a) core plain = put_extended-control core _ _ _
+executed-control (Extws d a) core plain = put-control core _ _
+executed-control (Extwz d a) core plain = put-control core _ _
+executed-control (Sfeq a b) core plain = put_comparison-control core _ _ _
+executed-control (Sfne a b) core plain = put_comparison-control core _ _ _
+executed-control (Sfgtu a b) core plain = put_comparison-control core _ _ _
+executed-control (Sfgeu a b) core plain = put_comparison-control core _ _ _
+executed-control (Sfltu a b) core plain = put_comparison-control core _ _ _
+executed-control (Sfleu a b) core plain = put_comparison-control core _ _ _
+executed-control (Sfgts a b) core plain = put_comparison-control core _ _ _
+executed-control (Sfges a b) core plain = put_comparison-control core _ _ _
+executed-control (Sflts a b) core plain = put_comparison-control core _ _ _
+executed-control (Sfles a b) core plain = put_comparison-control core _ _ _
+executed-control (Lwa d a i) core plain = tt
+executed-control (Lwz d a i) core plain = tt
+executed-control (Lws d a i) core plain = tt
+executed-control (Lbz d a i) core plain = tt
+executed-control (Lbs d a i) core plain = tt
+executed-control (Lhz d a i) core plain = tt
+executed-control (Lhs d a i) core plain = tt
+executed-control (Swa a b i) core plain = tt
+executed-control (Sw a b i) core plain = tt
+executed-control (Sb a b i) core plain = tt
+executed-control (Sh a b i) core plain = tt
+
+-- a bit of SR that decides it
+same_bit : (old new : Core) (mask : ℕ) → bit_and 0x56 mask ≡ mask → SameControl old new → has new.sr mask ≡ has old.sr mask
+same_bit old new mask among same =
+    let of_new : bit_and (bit_and new.sr 0x56) mask ≡ bit_and new.sr mask = and_assoc mask new.sr 0x56 ∙ ap (bit_and new.sr) among in
+    let of_old : bit_and (bit_and old.sr 0x56) mask ≡ bit_and old.sr mask = and_assoc mask old.sr 0x56 ∙ ap (bit_and old.sr) among in
+    ap (λ bits. not (bits == 0)) (sym of_new ∙ ap (λ bits. bit_and bits mask) same.status ∙ of_old)
+
+-- with the same control a core is quiet as before
+pub quiet-control : (old new : Core) → IsQuiet old → SameControl old new → IsQuiet new
+quiet-control old new quiet same = record {
+  cached = same_bit old new 0x10 refl same ∙ quiet.cached;
+  direct = same_bit old new 0x40 refl same ∙ quiet.direct;
+  still = ap (λ n. n / 0x40000000) same.ttmr ∙ quiet.still;
+  tick = ap (λ b. b && is_tick_pending new.ttmr) (same_bit old new 0x2 refl same) ∙ ap (λ n. has old.sr 0x2 && is_tick_pending n) same.ttmr ∙ quiet.tick;
+  external =
+      ap (λ b. b && is_pic_pending new.picmr new.picsr) (same_bit old new 0x4 refl same)
+      ∙ ap (λ n. has old.sr 0x4 && is_pic_pending n new.picsr) same.picmr
+      ∙ ap (λ n. has old.sr 0x4 && is_pic_pending old.picmr n) same.picsr
+      ∙ quiet.external;
+}

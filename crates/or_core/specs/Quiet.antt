@@ -1,0 +1,42 @@
+-- When the steps of a core need no look at its timer, its interrupts and its translation.
+use Rattle.std.specs.Prelude.{◌≡◌, ◌/◌, Bool, true, false, not, ◌==◌, ◌&&◌, None, bit_and, Option, Some}
+use Rattle.or_isa.specs.declared.Insn.{Insn}
+use Rattle.or_isa.specs.declared.Insn.TheVariants.{Nop, Mtspr, Rfe, Lwa, Lwz, Lws, Lbz, Lbs, Lhz, Lhs, Swa, Sw, Sb, Sh}
+use Rattle.or_parts.specs.Bits.{has}
+use Rattle.or_parts.specs.Timer.{is_tick_pending}
+use Rattle.or_parts.specs.Interrupts.{is_pic_pending}
+use Rattle.or_model.specs.Core.{Core}
+
+-- SR has ICE and not IME, the tick timer does not count, and no interrupt that is enabled is pending
+pub record IsQuiet (core : Core) : Type 0 where
+  pub cached : has core.sr 0x10 ≡ true
+  pub direct : has core.sr 0x40 ≡ false
+  pub still : core.ttmr / 0x40000000 ≡ 0
+  pub tick : (has core.sr 0x2 && is_tick_pending core.ttmr) ≡ false
+  pub external : (has core.sr 0x4 && is_pic_pending core.picmr core.picsr) ≡ false
+
+-- what decides whether a core is quiet: TTMR, PICMR, PICSR, and of SR the bits TEE, IEE, ICE and IME; and that it runs
+pub record SameControl (old new : Core) : Type 0 where
+  pub ttmr : new.ttmr ≡ old.ttmr
+  pub picmr : new.picmr ≡ old.picmr
+  pub picsr : new.picsr ≡ old.picsr
+  pub status : bit_and new.sr 0x56 ≡ bit_and old.sr 0x56
+  pub stop : new.stop ≡ old.stop
+
+-- an instruction that asks nothing of the bus and writes none of that
+abbrev pub is_plain : Insn → Bool
+is_plain (Nop k) = not (k == 1)
+is_plain (Mtspr a b k) = false
+is_plain Rfe = false
+is_plain (Lwa d a i) = false
+is_plain (Lwz d a i) = false
+is_plain (Lws d a i) = false
+is_plain (Lbz d a i) = false
+is_plain (Lbs d a i) = false
+is_plain (Lhz d a i) = false
+is_plain (Lhs d a i) = false
+is_plain (Swa a b i) = false
+is_plain (Sw a b i) = false
+is_plain (Sb a b i) = false
+is_plain (Sh a b i) = false
+is_plain _ = true

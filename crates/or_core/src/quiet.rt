@@ -1,0 +1,173 @@
+//! Steps of a quiet core, whose timer stands still and which no interrupt may meet: a test before
+//! them all takes the place of tests before each.
+
+ghost use Rattle.std.specs.Prelude.{◌≡◌, ◌+◌, ◌-◌, ◌/◌, ◌<◌, ◌≤◌, true, false, None, Some, IfSome, IsTrue, IsFalse, if◌then◌else◌};
+ghost use Rattle.or_model.specs.Step.{retired, is_private, private_step};
+ghost use Rattle.or_model.specs.Turn.{begun_within};
+ghost use Rattle.or_model.specs.Counts.{SameSettings};
+ghost use Rattle.or_core.specs.Next.{IsExecuted};
+ghost use Rattle.or_core.specs.Quiet.{IsQuiet, SameControl, is_plain};
+
+use crate::data_access::UNCACHED;
+use crate::state::{Core, has};
+use or_isa::{Insn, needs_bus};
+
+/// SR's tick and external interrupt enables, instruction cache enable and instruction MMU enable.
+const TEE: u32 = 0x2;
+
+const IEE: u32 = 0x4;
+
+const ICE: u32 = 0x10;
+
+const IME: u32 = 0x40;
+/// The unit of M, the mode of TTMR.
+const MODE: u32 = 0x4000_0000;
+/// The private steps of a turn.
+const STEPS: u32 = 256;
+
+/// The first steps of a turn, of a core that was quiet.
+#[derive(Clone, Copy)]
+pub(crate) struct Stretch {
+    /// How many steps were made, at most 256.
+    pub(crate) made: u32,
+    /// Whether the next one is known to need the bus.
+    pub(crate) asks_bus: bool,
+}
+
+// Whether an instruction asks nothing of the bus, and leaves a quiet core quiet.
+#[inline(always)]
+fn is_plain(insn: &Insn) -> bool
+    ensures { result ≡ is_plain insn.now }
+{
+    match insn {
+        Insn::Nop { k } => *k != 1,
+        Insn::Mtspr { .. }
+        | Insn::Rfe
+        | Insn::Lwa { .. }
+        | Insn::Lwz { .. }
+        | Insn::Lws { .. }
+        | Insn::Lbz { .. }
+        | Insn::Lbs { .. }
+        | Insn::Lhz { .. }
+        | Insn::Lhs { .. }
+        | Insn::Swa { .. }
+        | Insn::Sw { .. }
+        | Insn::Sb { .. }
+        | Insn::Sh { .. } => false,
+        _ => true,
+    }
+}
+
+impl Core {
+    // Whether the core is quiet.
+    fn is_quiet(&self) -> bool
+        ensures { IsTrue result → IsQuiet self.now }
+    {
+        let sr = self.sprs.sr();
+        has(sr, ICE)
+            && !has(sr, IME)
+            && self.tick.mode() / MODE == 0
+            && !(has(sr, TEE) && self.tick.pending())
+            && !(has(sr, IEE) && self.pic.pending())
+    }
+
+    // What the next step of a quiet core executes, where the line at pc is held.
+    #[inline(always)]
+    fn quiet_insn(&self) -> Option<Option<Insn>>
+        requires { IsQuiet self.now }
+        ensures { IfSome result (IsExecuted self.now) }
+    {
+        let pc = self.pc;
+        if pc % 4 == 0 && pc < UNCACHED {
+            self.icache.look(pc)
+        } else {
+            None
+        }
+    }
+
+    // One step more, of a core that reaches no budget by it and whose timer stands still.
+    #[inline(always)]
+    #[tactic(auto, unfolding(or_model::specs::Step::retired, or_model::specs::Step::with_step_counted, or_parts::specs::Timer::ticked))]
+    fn count_plain(&mut self)
+        requires still { self.old.ttmr / 0x40000000 ≡ 0 }
+        requires running { self.old.stop ≡ None }
+        requires room { self.old.steps + 1 < self.old.budget }
+        ensures state { self.new ≡ retired self.old }
+        ensures control { SameControl self.old self.new }
+        ensures settings { SameSettings self.old self.new }
+        ensures steps { self.new.steps ≡ self.old.steps + 1 }
+    {
+        self.steps += 1;
+    }
+
+    // Makes the next step of a quiet core, a plain instruction. False changes nothing: it may not stand
+    // where it does, or it meets an exception.
+    #[inline(always)]
+    fn plain_step(&mut self, insn: Insn) -> bool
+        requires next { IsExecuted self.old (Some insn) }
+        requires plain { is_plain insn ≡ true }
+        requires quiet { IsQuiet self.old }
+        requires running { self.old.stop ≡ None }
+        requires room { self.old.steps + 1 < self.old.budget }
+        ensures stepped { IsTrue result → (is_private self.old ≡ true) × (self.new ≡ private_step self.old) }
+        ensures stayed { IsFalse result → self.new ≡ self.old }
+        ensures quiet { IsQuiet self.new }
+        ensures running { self.new.stop ≡ None }
+        ensures settings { SameSettings self.old self.new }
+        ensures steps { self.new.steps ≡ self.old.steps + (if result then 1 else 0) }
+    {
+        if self.is_misplaced(&insn) {
+            return false;
+        }
+        match self.execute(insn) {
+            Ok(()) => {
+                self.count_plain();
+                true
+            }
+            Err(_) => false,
+        }
+    }
+
+    // The first steps of a turn, while the core is quiet and executes plain instructions of held lines.
+    #[tactic(auto, using(crate::proofs::Begins::begin_steps))]
+    pub(crate) fn quiet_steps(&mut self) -> Stretch
+        requires { self.old.stop ≡ None }
+        ensures left { begun_within 256 self.old ≡ begun_within (256 - result.made) self.new }
+        ensures few { result.made ≤ 256 }
+        ensures asks { IsTrue result.asks_bus → (is_private self.new ≡ false) × (result.made < 256) }
+        ensures running { self.new.stop ≡ None }
+        ensures settings { SameSettings self.old self.new }
+    {
+        if !self.is_quiet() {
+            return Stretch {
+                made: 0,
+                asks_bus: false,
+            };
+        }
+        let room = (self.budget - 1 - self.steps).min(STEPS);
+        for made in 0..room {
+            let Some(Some(insn)) = self.quiet_insn() else {
+                return Stretch {
+                    made,
+                    asks_bus: false,
+                };
+            };
+            if !is_plain(&insn) {
+                return Stretch {
+                    made,
+                    asks_bus: needs_bus(&insn, self.spr_number(&insn)),
+                };
+            }
+            if !self.plain_step(insn) {
+                return Stretch {
+                    made,
+                    asks_bus: false,
+                };
+            }
+        }
+        Stretch {
+            made: room,
+            asks_bus: false,
+        }
+    }
+}
