@@ -1,5 +1,5 @@
 -- A held word and the instruction beside it.
-use Rattle.std.proofs.Common.{◌≡◌, ℕ, Bool, true, false, Option, Some, None, refl, ap, sym, subst}
+use Rattle.std.proofs.Common.{◌≡◌, ℕ, Bool, true, false, Option, Some, None, refl, ap, sym, ◌∙◌, subst}
 use Rattle.std.specs.Prelude.{not, option_map, option_and_then}
 use Rattle.std.specs.Option.{option_or, ForSome}
 use Rattle.or_isa.specs.declared.Insn.{Insn}
@@ -9,9 +9,10 @@ use Rattle.or_model.specs.declared.Route.TheVariants.{At}
 use Rattle.or_model.specs.Core.{Core}
 use Rattle.or_model.specs.World.{World}
 use Rattle.or_model.specs.Routes.{fetch_route, cached_instruction}
-use Rattle.or_model.specs.Step.{step, step_by_held, step_by_insn, step_by_word, is_private, is_private_word, wants_bus, due_interrupt}
-use Rattle.or_core.specs.Access.{access_of_insn, access_of_word, word_fetched, step_access}
+use Rattle.or_model.specs.Step.{step, step_by_held, step_by_insn, step_by_word, step_on_bus, is_private, is_private_word, wants_bus, due_interrupt}
+use Rattle.or_core.specs.Access.{memory_operand, access_by, access_of_insn, access_of_word, word_fetched, step_access}
 use Rattle.or_core.specs.Next.{IsExecuted}
+use Rattle.or_core.specs.Quiet.{IsAhead}
 
 -- what a held word says is what the instruction beside it says
 record IsBeside (core : Core) (pa : ℕ) (cached : Bool) (word : Option ℕ) (insn : Option Insn) : Type 0 where
@@ -43,3 +44,15 @@ executed-beside core pa cached insn due route found fits =
       access = λ world. rw (due, route) (known.access world);
       fits = fits;
     }
+
+-- a step that is known to ask the bus
+pub ahead-step : (core : Core) (insn : Insn) (world : World) → IsAhead core insn → step core world ≡ step_on_bus core world insn
+ahead-step core insn world ahead = ahead.executed.state world ∙ rw ahead.asks
+
+pub ahead-access : (core : Core) (insn : Insn) (world : World) → IsAhead core insn → step_access core world ≡ option_and_then (access_by core world) (memory_operand insn)
+ahead-access core insn world ahead = ahead.executed.access world
+
+pub ahead-fits : (core : Core) (insn : Insn) → IsAhead core insn → Fits insn
+ahead-fits core insn ahead = ahead.executed.fits insn refl
+
+pub ruleset step_ahead = (ahead-step, ahead-access, ahead-fits)

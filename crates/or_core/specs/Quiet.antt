@@ -5,7 +5,10 @@ use Rattle.or_isa.specs.declared.Insn.TheVariants.{Nop, Mtspr, Rfe, Lwa, Lwz, Lw
 use Rattle.or_parts.specs.Bits.{has}
 use Rattle.or_parts.specs.Timer.{is_tick_pending}
 use Rattle.or_parts.specs.Interrupts.{is_pic_pending}
+use Rattle.or_isa.specs.Bus.{needs_bus_of}
 use Rattle.or_model.specs.Core.{Core}
+use Rattle.or_model.specs.Step.{spr_number}
+use Rattle.or_core.specs.Next.{IsExecuted}
 
 -- SR has ICE and not IME, the tick timer does not count, and no interrupt that is enabled is pending
 pub record IsQuiet (core : Core) : Type 0 where
@@ -40,3 +43,8 @@ is_plain (Sw a b i) = false
 is_plain (Sb a b i) = false
 is_plain (Sh a b i) = false
 is_plain _ = true
+
+-- the next step executes an instruction that asks the bus
+pub record IsAhead (core : Core) (insn : Insn) : Type 0 where
+  pub executed : IsExecuted core (Some insn)
+  pub asks : needs_bus_of insn (spr_number core insn) ≡ true

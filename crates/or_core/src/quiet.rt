@@ -6,7 +6,7 @@ ghost use Rattle.or_model.specs.Step.{retired, is_private, private_step};
 ghost use Rattle.or_model.specs.Turn.{begun_within};
 ghost use Rattle.or_model.specs.Counts.{SameSettings};
 ghost use Rattle.or_core.specs.Next.{IsExecuted};
-ghost use Rattle.or_core.specs.Quiet.{IsQuiet, SameControl, is_plain};
+ghost use Rattle.or_core.specs.Quiet.{IsQuiet, SameControl, is_plain, IsAhead};
 
 use crate::data_access::UNCACHED;
 use crate::state::{Core, has};
@@ -30,8 +30,18 @@ const STEPS: u32 = 256;
 pub(crate) struct Stretch {
     /// How many steps were made, at most 256.
     pub(crate) made: u32,
-    /// Whether the next one is known to need the bus.
-    pub(crate) asks_bus: bool,
+    /// What the next one executes, where it is known to ask the bus.
+    pub(crate) ahead: Option<Insn>,
+}
+
+impl Stretch {
+    // Steps behind which nothing is known.
+    #[inline(always)]
+    fn of(made: u32) -> Stretch
+        ensures { result ≡ record { made = made; ahead = None } }
+    {
+        Stretch { made, ahead: None }
+    }
 }
 
 // Whether an instruction asks nothing of the bus, and leaves a quiet core quiet.
@@ -128,46 +138,47 @@ impl Core {
         }
     }
 
+    // An instruction that is executed next, where it asks the bus.
+    #[inline(always)]
+    fn asking(&self, insn: Insn) -> Option<Insn>
+        requires { IsExecuted self.now (Some insn) }
+        ensures { IfSome result (IsAhead self.now) }
+    {
+        if needs_bus(&insn, self.spr_number(&insn)) {
+            Some(insn)
+        } else {
+            None
+        }
+    }
+
     // The first steps of a turn, while the core is quiet and executes plain instructions of held lines.
     #[tactic(auto, using(crate::proofs::Begins::begin_steps))]
     pub(crate) fn quiet_steps(&mut self) -> Stretch
         requires { self.old.stop ≡ None }
         ensures left { begun_within 256 self.old ≡ begun_within (256 - result.made) self.new }
         ensures few { result.made ≤ 256 }
-        ensures asks { IsTrue result.asks_bus → (is_private self.new ≡ false) × (result.made < 256) }
+        ensures ahead { IfSome result.ahead (λ insn. IsAhead self.new insn × (result.made < 256)) }
         ensures running { self.new.stop ≡ None }
         ensures settings { SameSettings self.old self.new }
     {
         if !self.is_quiet() {
-            return Stretch {
-                made: 0,
-                asks_bus: false,
-            };
+            return Stretch::of(0);
         }
         let room = (self.budget - 1 - self.steps).min(STEPS);
         for made in 0..room {
             let Some(Some(insn)) = self.quiet_insn() else {
-                return Stretch {
-                    made,
-                    asks_bus: false,
-                };
+                return Stretch::of(made);
             };
             if !is_plain(&insn) {
                 return Stretch {
                     made,
-                    asks_bus: needs_bus(&insn, self.spr_number(&insn)),
+                    ahead: self.asking(insn),
                 };
             }
             if !self.plain_step(insn) {
-                return Stretch {
-                    made,
-                    asks_bus: false,
-                };
+                return Stretch::of(made);
             }
         }
-        Stretch {
-            made: room,
-            asks_bus: false,
-        }
+        Stretch::of(room)
     }
 }

@@ -12,6 +12,7 @@ ghost use Rattle.or_bus.specs.Represents.{Represents};
 ghost use Rattle.or_model.specs.Counts.{SameCounts, SameSettings};
 ghost use Rattle.or_core.specs.Follows.{IsState, IsOutcome, IsAlignedBy, KeepsBus};
 ghost use Rattle.or_core.specs.Access.{memory_operand, access_by, access_of_insn, access_of_word, word_fetched, step_access};
+ghost use Rattle.or_core.specs.Quiet.{IsAhead};
 
 use crate::data_access::UNCACHED;
 use crate::execute::extension;
@@ -262,6 +263,24 @@ impl Core {
             }
             Err(_) => self.enter_step(Cause::BusError(self.pc())),
         }
+    }
+
+    // Makes a step that is known to ask the bus.
+    #[inline(always)]
+    #[tactic(auto, using(crate::proofs::Nexts::step_ahead))]
+    pub(crate) fn step_asking(&mut self, bus: &mut Bus, insn: Insn)
+        requires ahead { IsAhead self.old insn }
+        requires running { self.old.stop ≡ None }
+        requires known { self.old.number < bus.old.cores }
+        requires spare { 0 < bus.old.spare }
+        ensures state { (world : World) → Represents bus.old world → IsState (step self.old world) self.new bus.new }
+        ensures settings { SameSettings self.old self.new }
+        ensures steps { self.new.steps ≡ self.old.steps + 1 }
+        ensures access { (world : World) → Represents bus.old world → bus.new.last ≡ option_or (step_access self.old world) bus.old.last }
+        ensures bus { KeepsBus bus.old bus.new }
+    {
+        let _ = &self.steps;
+        self.step_on_bus(bus, insn);
     }
 
     /// Makes one step: a retired instruction, or an exception entry. The steps rise by one.

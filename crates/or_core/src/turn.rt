@@ -1,46 +1,128 @@
 //! Turns of a core.
 
-ghost use Rattle.std.specs.Prelude.{◌≡◌, ◌<◌, ◌≤◌, ◌+◌, if◌then◌else◌, None, IsTrue, [], ◌++◌, length};
+ghost use Rattle.std.specs.Prelude.{◌≡◌, ◌<◌, ◌≤◌, ◌+◌, if◌then◌else◌, None, IsTrue, IsSome, IfSome, [], ◌++◌, length};
 ghost use Rattle.std.specs.Option.{option_or};
 ghost use Rattle.or_model.specs.World.{World};
+ghost use Rattle.or_model.specs.Step.{step};
 ghost use Rattle.or_model.specs.Turn.{turn_begun, turn_ended, turn};
 ghost use Rattle.or_model.specs.Trace.{private_trace, bus_trace, turn_trace};
 ghost use Rattle.or_bus.specs.Represents.{Represents};
 ghost use Rattle.or_model.specs.Counts.{SameSettings};
 ghost use Rattle.or_core.specs.Follows.{IsState, KeepsBus};
 ghost use Rattle.or_core.specs.Access.{step_access, turn_access};
+ghost use Rattle.or_core.specs.Quiet.{IsAhead};
 
 use crate::private::Private;
 use crate::state::Core;
 use arrayvec::ArrayVec;
 use or_bus::Bus;
+use or_isa::Insn;
+
+/// What the private steps of a turn have come to.
+#[derive(Clone, Copy)]
+struct Begun {
+    // Whether a step on the bus follows.
+    follows: bool,
+    // What that step executes, where it is known.
+    ahead: Option<Insn>,
+}
 
 impl Core {
-    /// Makes the private steps of a turn, at most 256, and answers whether a step on the bus follows.
+    // Makes the private steps of a turn, at most 256.
     #[tactic(auto, using(crate::proofs::Begins::begin_steps), unfolding(or_model::specs::Turn::turn_begun))]
+    fn begin(&mut self) -> Begun
+        requires { self.old.stop ≡ None }
+        ensures begun { turn_begun self.old ≡ record { core = self.new; follows = result.follows } }
+        ensures ahead { IfSome result.ahead (IsAhead self.new) }
+        ensures known { IsSome result.ahead → IsTrue result.follows }
+        ensures running { IsTrue result.follows → self.new.stop ≡ None }
+        ensures settings { SameSettings self.old self.new }
+    {
+        let quiet = self.quiet_steps();
+        if quiet.ahead.is_some() {
+            return Begun {
+                follows: true,
+                ahead: quiet.ahead,
+            };
+        }
+        for made in quiet.made..256 {
+            match self.try_private() {
+                Private::Stepped => {}
+                Private::NeedsBus => {
+                    return Begun {
+                        follows: true,
+                        ahead: None,
+                    };
+                }
+                Private::Stopped => {
+                    return Begun {
+                        follows: false,
+                        ahead: None,
+                    };
+                }
+            }
+        }
+        Begun {
+            follows: false,
+            ahead: None,
+        }
+    }
+
+    // Makes the step on the bus, if one follows.
+    #[inline(always)]
+    fn step_ahead(&mut self, bus: &mut Bus, begun: Begun)
+        requires ahead { IfSome begun.ahead (IsAhead self.old) }
+        requires follows { IsSome begun.ahead → IsTrue begun.follows }
+        requires running { IsTrue begun.follows → self.old.stop ≡ None }
+        requires known { self.old.number < bus.old.cores }
+        requires spare { 0 < bus.old.spare }
+        ensures state { (world : World) → Represents bus.old world → IsState (if begun.follows then step self.old world else record { core = self.old; world = world }) self.new bus.new }
+        ensures settings { SameSettings self.old self.new }
+        ensures steps { self.new.steps ≡ self.old.steps + (if begun.follows then 1 else 0) }
+        ensures access { (world : World) → Represents bus.old world → bus.new.last ≡ option_or (if begun.follows then step_access self.old world else None) bus.old.last }
+        ensures bus { KeepsBus bus.old bus.new }
+    {
+        match begun.ahead {
+            Some(insn) => self.step_asking(bus, insn),
+            None => {
+                if begun.follows {
+                    self.step(bus);
+                }
+            }
+        }
+    }
+
+    /// Makes the private steps of a turn, at most 256, and answers whether a step on the bus follows.
     pub fn begin_turn(&mut self) -> bool
         requires { self.old.stop ≡ None }
         ensures begun { turn_begun self.old ≡ record { core = self.new; follows = result } }
         ensures running { IsTrue result → self.new.stop ≡ None }
         ensures settings { SameSettings self.old self.new }
     {
-        let quiet = self.quiet_steps();
-        if quiet.asks_bus {
-            return true;
-        }
-        for made in quiet.made..256 {
-            match self.try_private() {
-                Private::Stepped => {}
-                Private::NeedsBus => return true,
-                Private::Stopped => return false,
-            }
-        }
-        false
+        self.begin().follows
+    }
+
+    // Makes the rest of a turn.
+    #[inline(always)]
+    #[tactic(auto, unfolding(or_model::specs::Turn::turn_ended))]
+    fn end(&mut self, bus: &mut Bus, begun: Begun)
+        requires ahead { IfSome begun.ahead (IsAhead self.old) }
+        requires follows { IsSome begun.ahead → IsTrue begun.follows }
+        requires running { IsTrue begun.follows → self.old.stop ≡ None }
+        requires known { self.old.number < bus.old.cores }
+        requires spare { 0 < bus.old.spare }
+        ensures state { (world : World) → Represents bus.old world → IsState (turn_ended self.old world begun.follows) self.new bus.new }
+        ensures settings { SameSettings self.old self.new }
+        ensures steps { self.new.steps ≡ self.old.steps + (if begun.follows then 1 else 0) }
+        ensures access { (world : World) → Represents bus.old world → bus.new.last ≡ option_or (if begun.follows then step_access self.old world else None) bus.old.last }
+        ensures bus { KeepsBus bus.old bus.new }
+    {
+        self.step_ahead(bus, begun);
+        self.sample(bus.lines(self.number()));
     }
 
     /// Makes the rest of a turn, given what `begin_turn` answered: the step on the bus if one follows,
     /// and the sampling of the interrupt lines.
-    #[tactic(auto, unfolding(or_model::specs::Turn::turn_ended))]
     pub fn end_turn(&mut self, bus: &mut Bus, follows: bool)
         requires running { IsTrue follows → self.old.stop ≡ None }
         requires known { self.old.number < bus.old.cores }
@@ -51,10 +133,13 @@ impl Core {
         ensures access { (world : World) → Represents bus.old world → bus.new.last ≡ option_or (if follows then step_access self.old world else None) bus.old.last }
         ensures bus { KeepsBus bus.old bus.new }
     {
-        if follows {
-            self.step(bus);
-        }
-        self.sample(bus.lines(self.number()));
+        self.end(
+            bus,
+            Begun {
+                follows,
+                ahead: None,
+            },
+        );
     }
 
     /// Makes one turn: private steps, at most 256, then a step on the bus where fewer were made and
@@ -71,8 +156,8 @@ impl Core {
         ensures bus { KeepsBus bus.old bus.new }
     {
         let _ = &self.steps;
-        let follows = self.begin_turn();
-        self.end_turn(bus, follows);
+        let begun = self.begin();
+        self.end(bus, begun);
     }
 
     /// Makes one turn as `turn` does, and lists in `trace`, which is empty before, the pc before each of

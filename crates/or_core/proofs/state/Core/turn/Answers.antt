@@ -4,4 +4,4 @@ use Rattle.or_core.proofs.state.Core.turn.Goals as goal
 
 pub returns-clause-progress : goal.returns-clause-progress
 returns-clause-progress c =
-    turn_progress c.args.self.now c.begin_turn-follows.new.self c.end_turn.new.self c.begin_turn-follows.result c.begin_turn-follows.ensures.begun (search rules) c.requires.running c.end_turn.ensures.steps
+    turn_progress c.args.self.now c.begin-begun.new.self c.end.new.self c.begin-begun.result.follows c.begin-begun.ensures.begun (search rules) c.requires.running c.end.ensures.steps
