@@ -1,7 +1,7 @@
 //! Numbers and bytes as text, appended to what a list holds.
 #![tactic(auto)]
 
-ghost use Rattle.std.specs.Prelude.{◌≡◌, ◌≤◌, ◌<◌, ◌^◌, ◌++◌, OnOk, decimal, codes, true, false, pos, negsuc};
+ghost use Rattle.std.specs.Prelude.{◌≡◌, ◌≤◌, ◌<◌, ◌+◌, ◌^◌, ◌++◌, length, OnOk, OnErr, vec_capacity, vec_len, decimal, codes, true, false, pos, negsuc};
 ghost use Rattle.std.specs.Fmt.{digit_glyph, digits, signed_decimal};
 ghost use Rattle.or_text.specs.Hexadecimal.{hexadecimal, word_text, digest_text};
 
@@ -12,7 +12,9 @@ use std::alloc::AllocError;
 /// Appends a number in decimal, without leading zeros.
 #[tactic(auto, using(crate::proofs::Digits::digit_rules))]
 pub fn append_decimal(n: u64, out: &mut Vec<u8>) -> Result<(), AllocError>
-    ensures { OnOk result (out.new.items ≡ out.old.items ++ decimal n) }
+    ensures text { OnOk result (out.new.items ≡ out.old.items ++ decimal n) }
+    ensures full { OnErr result (vec_capacity out.old < vec_len out.old + length (decimal n)) }
+    ensures capacity { vec_capacity out.old ≤ vec_capacity out.new }
 {
     if n < 10 {
         out.push(b'0' + n as u8)?;
@@ -25,7 +27,9 @@ pub fn append_decimal(n: u64, out: &mut Vec<u8>) -> Result<(), AllocError>
 
 /// Appends a signed number in decimal, with `-` before a negative one.
 pub fn append_signed(value: i32, out: &mut Vec<u8>) -> Result<(), AllocError>
-    ensures { OnOk result (out.new.items ≡ out.old.items ++ signed_decimal value) }
+    ensures text { OnOk result (out.new.items ≡ out.old.items ++ signed_decimal value) }
+    ensures full { OnErr result (vec_capacity out.old < vec_len out.old + length (signed_decimal value)) }
+    ensures capacity { vec_capacity out.old ≤ vec_capacity out.new }
 {
     if value < 0 {
         out.push(b'-')?;
@@ -60,7 +64,9 @@ fn small(digit: u8) -> u8
 // Appends a number in capital hexadecimal digits, without leading zeros.
 #[tactic(auto, using(crate::proofs::Digits::digit_rules))]
 fn append_digits(n: u32, out: &mut Vec<u8>) -> Result<(), AllocError>
-    ensures { OnOk result (out.new.items ≡ out.old.items ++ digits 16 true n) }
+    ensures text { OnOk result (out.new.items ≡ out.old.items ++ digits 16 true n) }
+    ensures full { OnErr result (vec_capacity out.old < vec_len out.old + length (digits 16 true n)) }
+    ensures capacity { vec_capacity out.old ≤ vec_capacity out.new }
 {
     if n < 16 {
         out.push(capital(n))?;
@@ -73,7 +79,9 @@ fn append_digits(n: u32, out: &mut Vec<u8>) -> Result<(), AllocError>
 
 /// Appends a number as `0x` and capital hexadecimal digits, without leading zeros.
 pub fn append_hexadecimal(n: u32, out: &mut Vec<u8>) -> Result<(), AllocError>
-    ensures { OnOk result (out.new.items ≡ out.old.items ++ hexadecimal n) }
+    ensures text { OnOk result (out.new.items ≡ out.old.items ++ hexadecimal n) }
+    ensures full { OnErr result (vec_capacity out.old < vec_len out.old + length (hexadecimal n)) }
+    ensures capacity { vec_capacity out.old ≤ vec_capacity out.new }
 {
     out.extend_from_slice(b"0x")?;
     append_digits(n, out)
@@ -81,7 +89,10 @@ pub fn append_hexadecimal(n: u32, out: &mut Vec<u8>) -> Result<(), AllocError>
 
 /// Appends a word as eight capital hexadecimal digits.
 pub fn append_word(n: u32, out: &mut Vec<u8>) -> Result<(), AllocError>
-    ensures { OnOk result (out.new.items ≡ out.old.items ++ word_text n) }
+    ensures text { OnOk result (out.new.items ≡ out.old.items ++ word_text n) }
+    ensures same { OnErr result (out.new.items ≡ out.old.items) }
+    ensures full { OnErr result (vec_capacity out.old < vec_len out.old + length (word_text n)) }
+    ensures capacity { vec_capacity out.old ≤ vec_capacity out.new }
 {
     let digits = [
         capital(n / 0x1000_0000),
@@ -97,8 +108,11 @@ pub fn append_word(n: u32, out: &mut Vec<u8>) -> Result<(), AllocError>
 }
 
 /// Appends bytes as two lower-case hexadecimal digits each.
+#[tactic(auto, using(crate::proofs::Digits::digest_length))]
 pub fn append_digest(bytes: &[u8], out: &mut Vec<u8>) -> Result<(), AllocError>
-    ensures { OnOk result (out.new.items ≡ out.old.items ++ digest_text bytes.now) }
+    ensures text { OnOk result (out.new.items ≡ out.old.items ++ digest_text bytes.now) }
+    ensures full { OnErr result (vec_capacity out.old < vec_len out.old + length (digest_text bytes.now)) }
+    ensures capacity { vec_capacity out.old ≤ vec_capacity out.new }
 {
     for byte in bytes {
         out.extend_from_slice(&[small(*byte / 16), small(*byte % 16)])?;
