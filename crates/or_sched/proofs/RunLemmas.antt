@@ -1,5 +1,5 @@
 -- The ends of blocks and of their runs.
-use Rattle.std.proofs.Common.{◌≡◌, ◌∙◌, ap, sym, ℕ, List, ◌++◌, ◌∷◌, [], ◌<◌, ◌≤◌, ◌*◌, length, take, drop, append_assoc, arith, ◌+◌}
+use Rattle.std.proofs.Common.{◌≡◌, ◌∙◌, ap, sym, ℕ, List, ◌++◌, ◌∷◌, [], ◌<◌, ◌≤◌, ◌*◌, length, length-append, take, drop, append_assoc, arith, ◌+◌}
 use Rattle.std.proofs.lemmas.Grind.{common_steps}
 use Rattle.std.specs.Prelude.{All}
 use Rattle.or_sched.specs.declared.recording.Mark.{Mark}
@@ -34,3 +34,19 @@ fewer_blocks block mark after marks rest later parts cut room = grind (arith, ap
 -- each turn behind a block is of a core
 pub all_behind : (block : ℕ) (rest later : List ℕ) → later ≡ drop block rest → All (λ turn. turn < 8) rest → All (λ turn. turn < 8) later
 all_behind block rest later is_later all = λ k d lt. grind (arith, common_steps, all (block + k) d)
+
+-- the last run and its line feed end the text
+pub last_run_ends : (rest : List ℕ) (core count left : ℕ) (before old whole : List ℕ) → length rest < 1
+    → before ++ lines_text left (runs_after core count rest) ≡ old ++ whole
+    → length before + length (lines_text left ((core, count) ∷ [])) ≡ length old + length whole
+last_run_ends [] core count left before old whole short text =
+    sym (length-append before (lines_text left ((core, count) ∷ []))) ∙ ap length text ∙ length-append old whole
+last_run_ends (turn ∷ rest) core count left before old whole short text = absurd (omega arith)
+
+-- the turns that are left end the text
+pub last_block_ends : (block : ℕ) (marks : List Mark) (rest before old whole : List ℕ) → length marks ≡ 0
+    → before ++ blocks_text block marks rest ≡ old ++ whole
+    → length before + length (block_text rest) ≡ length old + length whole
+last_block_ends block [] rest before old whole none text =
+    sym (length-append before (block_text rest)) ∙ ap length text ∙ length-append old whole
+last_block_ends block (mark ∷ marks) rest before old whole none text = absurd (omega arith)

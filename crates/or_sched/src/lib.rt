@@ -3,6 +3,8 @@
 
 mod head;
 pub mod laws;
+#[cfg(test)]
+mod long_tests;
 mod places;
 mod reader;
 mod recording;

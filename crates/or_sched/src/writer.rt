@@ -1,5 +1,5 @@
 // The text of a recording.
-ghost use Rattle.std.specs.Prelude.{◌≡◌, ◌≤◌, ◌<◌, ◌*◌, ◌+◌, ◌++◌, [], ◌∷◌, All, List, ℕ, length, OnOk, OnErr, IfOk};
+ghost use Rattle.std.specs.Prelude.{◌≡◌, ◌≤◌, ◌<◌, ◌*◌, ◌+◌, ◌++◌, [], ◌∷◌, All, List, ℕ, length, OnOk, OnErr, IfOk, vec_capacity, vec_len};
 ghost use Rattle.or_words.specs.Settings.{Fits};
 ghost use Rattle.or_sched.specs.RecText.{rec_text2};
 ghost use Rattle.or_sched.specs.HeadText.{head_text2, config_line, form_text, digest_line};
@@ -18,7 +18,8 @@ const BLOCK: usize = 65536;
 /// Writes the recording of some turns, in version 2, to an empty list.
 ///
 /// The turns are the numbers of their cores; there are 1 to `cores` × `budget` of them. After each whole block of 65536
-/// turns stands a mark, whose numbers are at most that of the turns before it. NoMemory leaves the list empty.
+/// turns stands a mark, whose numbers are at most that of the turns before it. NoMemory leaves the list empty, and comes
+/// only where it lacks the capacity for the whole text.
 pub fn write(head: &Head, turns: &[u8], marks: &[Mark], out: &mut Vec<u8>) -> Result<(), NoMemory>
     requires empty { out.old.items ≡ [] }
     requires settings { Fits head.now.config }
@@ -26,6 +27,7 @@ pub fn write(head: &Head, turns: &[u8], marks: &[Mark], out: &mut Vec<u8>) -> Re
     requires marks { AreMarks turns.now marks.now }
     ensures ok { OnOk result (out.new.items ≡ rec_text2 head.now turns.now marks.now) }
     ensures err { OnErr result (out.new.items ≡ []) }
+    ensures full { OnErr result (vec_capacity out.old < length (rec_text2 head.now turns.now marks.now)) }
 {
     match append_recording(head, turns, marks, out) {
         Ok(()) => Ok(()),
@@ -45,14 +47,18 @@ fn append_recording(
 ) -> Result<(), AllocError>
     requires marks { 65536 * length marks.now ≤ length turns.now }
     requires cores { All (λ turn. turn < 8) turns.now }
-    ensures { OnOk result (out.new.items ≡ out.old.items ++ rec_text2 head.now turns.now marks.now) }
+    ensures text { OnOk result (out.new.items ≡ out.old.items ++ rec_text2 head.now turns.now marks.now) }
+    ensures full { OnErr result (vec_capacity out.old < vec_len out.old + length (rec_text2 head.now turns.now marks.now)) }
+    ensures capacity { vec_capacity out.old ≤ vec_capacity out.new }
 {
     append_head(head, out)?;
     append_blocks(BLOCK, turns, marks, out)
 }
 
 fn append_head(head: &Head, out: &mut Vec<u8>) -> Result<(), AllocError>
-    ensures { OnOk result (out.new.items ≡ out.old.items ++ head_text2 head.now) }
+    ensures text { OnOk result (out.new.items ≡ out.old.items ++ head_text2 head.now) }
+    ensures full { OnErr result (vec_capacity out.old < vec_len out.old + length (head_text2 head.now)) }
+    ensures capacity { vec_capacity out.old ≤ vec_capacity out.new }
 {
     out.extend_from_slice(b"orsched 2\n")?;
     append_config(&head.config, out)?;
@@ -61,7 +67,9 @@ fn append_head(head: &Head, out: &mut Vec<u8>) -> Result<(), AllocError>
 }
 
 fn append_config(config: &Config, out: &mut Vec<u8>) -> Result<(), AllocError>
-    ensures { OnOk result (out.new.items ≡ out.old.items ++ config_line config.now) }
+    ensures text { OnOk result (out.new.items ≡ out.old.items ++ config_line config.now) }
+    ensures full { OnErr result (vec_capacity out.old < vec_len out.old + length (config_line config.now)) }
+    ensures capacity { vec_capacity out.old ≤ vec_capacity out.new }
 {
     out.extend_from_slice(b"cores ")?;
     append_decimal(u64::from(config.cores), out)?;
@@ -75,7 +83,9 @@ fn append_config(config: &Config, out: &mut Vec<u8>) -> Result<(), AllocError>
 
 // Appends the form of the PIC, where it latches.
 fn append_form(latched: bool, out: &mut Vec<u8>) -> Result<(), AllocError>
-    ensures { OnOk result (out.new.items ≡ out.old.items ++ form_text latched) }
+    ensures text { OnOk result (out.new.items ≡ out.old.items ++ form_text latched) }
+    ensures full { OnErr result (vec_capacity out.old < vec_len out.old + length (form_text latched)) }
+    ensures capacity { vec_capacity out.old ≤ vec_capacity out.new }
 {
     if latched {
         return out.extend_from_slice(b" pic latched");
@@ -84,7 +94,9 @@ fn append_form(latched: bool, out: &mut Vec<u8>) -> Result<(), AllocError>
 }
 
 fn append_digest_line(name: &[u8], bytes: &[u8], out: &mut Vec<u8>) -> Result<(), AllocError>
-    ensures { OnOk result (out.new.items ≡ out.old.items ++ digest_line name.now bytes.now) }
+    ensures text { OnOk result (out.new.items ≡ out.old.items ++ digest_line name.now bytes.now) }
+    ensures full { OnErr result (vec_capacity out.old < vec_len out.old + length (digest_line name.now bytes.now)) }
+    ensures capacity { vec_capacity out.old ≤ vec_capacity out.new }
 {
     out.extend_from_slice(name)?;
     append_digest(bytes, out)?;
@@ -100,7 +112,9 @@ fn append_blocks(
 ) -> Result<(), AllocError>
     requires marks { block * length marks.now ≤ length turns.now }
     requires cores { All (λ turn. turn < 8) turns.now }
-    ensures { OnOk result (out.new.items ≡ out.old.items ++ blocks_text block marks.now turns.now) }
+    ensures text { OnOk result (out.new.items ≡ out.old.items ++ blocks_text block marks.now turns.now) }
+    ensures full { OnErr result (vec_capacity out.old < vec_len out.old + length (blocks_text block marks.now turns.now)) }
+    ensures capacity { vec_capacity out.old ≤ vec_capacity out.new }
 {
     let mut rest = turns;
     let mut marks_left = marks;
@@ -115,7 +129,9 @@ fn append_blocks(
 }
 
 fn append_mark(mark: &Mark, out: &mut Vec<u8>) -> Result<(), AllocError>
-    ensures { OnOk result (out.new.items ≡ out.old.items ++ mark_line mark.now) }
+    ensures text { OnOk result (out.new.items ≡ out.old.items ++ mark_line mark.now) }
+    ensures full { OnErr result (vec_capacity out.old < vec_len out.old + length (mark_line mark.now)) }
+    ensures capacity { vec_capacity out.old ≤ vec_capacity out.new }
 {
     out.extend_from_slice(b"mark ")?;
     append_decimal(mark.writes, out)?;
@@ -127,7 +143,9 @@ fn append_mark(mark: &Mark, out: &mut Vec<u8>) -> Result<(), AllocError>
 // Appends the run lines of a block.
 fn append_block(turns: &[u8], out: &mut Vec<u8>) -> Result<(), AllocError>
     requires { All (λ turn. turn < 8) turns.now }
-    ensures { OnOk result (out.new.items ≡ out.old.items ++ block_text turns.now) }
+    ensures text { OnOk result (out.new.items ≡ out.old.items ++ block_text turns.now) }
+    ensures full { OnErr result (vec_capacity out.old < vec_len out.old + length (block_text turns.now)) }
+    ensures capacity { vec_capacity out.old ≤ vec_capacity out.new }
 {
     let [first, others @ ..] = turns else {
         return Ok(());
@@ -159,6 +177,9 @@ fn append_run(core: u8, count: u64, left: u8, out: &mut Vec<u8>) -> Result<u8, A
     ensures text { IfOk result (λ room. (others : List (ℕ × ℕ)) →
         out.new.items ++ lines_text room others ≡ out.old.items ++ lines_text left ((core, count) ∷ others)) }
     ensures room { IfOk result (λ room. room < 16) }
+    ensures full { OnErr result ((others : List (ℕ × ℕ)) →
+        vec_capacity out.old < vec_len out.old + length (lines_text left ((core, count) ∷ others))) }
+    ensures capacity { vec_capacity out.old ≤ vec_capacity out.new }
 {
     if left == 0 {
         out.push(b'\n')?;
@@ -172,7 +193,9 @@ fn append_run(core: u8, count: u64, left: u8, out: &mut Vec<u8>) -> Result<u8, A
 // Appends the letter, and the count where it isn't 1.
 fn append_run_text(core: u8, count: u64, out: &mut Vec<u8>) -> Result<(), AllocError>
     requires { core < 8 }
-    ensures { OnOk result (out.new.items ≡ out.old.items ++ run_text (core, count)) }
+    ensures text { OnOk result (out.new.items ≡ out.old.items ++ run_text (core, count)) }
+    ensures full { OnErr result (vec_capacity out.old < vec_len out.old + length (run_text (core, count))) }
+    ensures capacity { vec_capacity out.old ≤ vec_capacity out.new }
 {
     out.push(b'a' + core)?;
     if count == 1 {

@@ -1,4 +1,4 @@
-use Rattle.std.proofs.Common.{◌≡◌, ◌++◌, ◌+◌, ◌≤◌, ◌<◌, length}
+use Rattle.std.proofs.Common.{◌≡◌, ◌++◌, ◌+◌, ◌≤◌, ◌<◌, length, vec_capacity}
 use Rattle.std.specs.Prelude.{All}
 use Rattle.or_sched.specs.Runs.{lines_text, runs_after, block_text}
 use Rattle.or_sched.proofs.writer.append_block.Given as goal
@@ -10,6 +10,7 @@ invariant-loop-rest l = record {
   core : l.core < 8;
   cores : All (λ turn. turn < 8) l.rest;
   count : l.count + length l.rest ≤ length l.turns;
+  capacity : vec_capacity l.initial.out ≤ vec_capacity l.out;
 }
 
 abbrev pub decreases-loop-rest : goal.decreases-loop-rest
