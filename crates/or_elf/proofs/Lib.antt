@@ -9,3 +9,4 @@ pub mod WrittenWords
 pub mod WrittenHeaders
 pub mod WrittenFault
 pub mod WrittenPlaces
+pub mod WrittenSizes

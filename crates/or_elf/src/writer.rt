@@ -1,5 +1,5 @@
 // Writes the file of a program.
-ghost use Rattle.std.specs.Prelude.{◌≡◌, ◌≤◌, ◌<◌, ◌+◌, ◌*◌, ◌^◌, [], ◌++◌, length, OnOk, OnErr};
+ghost use Rattle.std.specs.Prelude.{◌≡◌, ◌≤◌, ◌<◌, ◌+◌, ◌*◌, ◌^◌, [], ◌++◌, length, OnOk, OnErr, vec_capacity, vec_len};
 ghost use Rattle.byteorder.specs.Endian.{big_bytes};
 ghost use Rattle.or_elf.specs.Text.{word_count, words_text, halves_text, ident, elf_header, headers_start, program_header, program_headers, pieces_text, elf_text};
 
@@ -10,13 +10,14 @@ use std::alloc::AllocError;
 
 /// Writes the ELF file of a program (ELF gABI, "ELF Header" and "Program Header"): an executable for OpenRISC that is
 /// entered at 00000100, with a segment for each piece, at the piece's place. `out` is empty before, and again after
-/// `NoMemory`.
+/// `NoMemory`, which comes only where it lacks the capacity for the whole file.
 pub fn write(program: &Program, out: &mut Vec<u8>) -> Result<(), NoMemory>
     requires empty { out.old.items ≡ [] }
     requires pieces { length program.now ≤ 64 }
     requires words { word_count program.now ≤ 16000000 }
     ensures text { OnOk result (out.new.items ≡ elf_text program.now) }
     ensures no_memory { OnErr result (out.new.items ≡ []) }
+    ensures full { OnErr result (vec_capacity out.old < length (elf_text program.now)) }
 {
     match append_file(&program.pieces, out) {
         Ok(()) => Ok(()),
@@ -32,7 +33,8 @@ fn append_file(pieces: &[Piece], out: &mut Vec<u8>) -> Result<(), AllocError>
     requires empty { out.old.items ≡ [] }
     requires pieces { length pieces.now ≤ 64 }
     requires words { word_count pieces.now ≤ 16000000 }
-    ensures { OnOk result (out.new.items ≡ elf_text pieces.now) }
+    ensures text { OnOk result (out.new.items ≡ elf_text pieces.now) }
+    ensures full { OnErr result (vec_capacity out.old < length (elf_text pieces.now)) }
 {
     append_elf_header(pieces.len() as u16, out)?;
     append_program_headers(pieces, 52 + 32 * pieces.len() as u32, out)?;
@@ -41,7 +43,9 @@ fn append_file(pieces: &[Piece], out: &mut Vec<u8>) -> Result<(), AllocError>
 
 #[tactic(auto, unfolding(crate::specs::Text::elf_header))]
 fn append_elf_header(count: u16, out: &mut Vec<u8>) -> Result<(), AllocError>
-    ensures { OnOk result (out.new.items ≡ out.old.items ++ elf_header count) }
+    ensures text { OnOk result (out.new.items ≡ out.old.items ++ elf_header count) }
+    ensures full { OnErr result (vec_capacity out.old < vec_len out.old + length (elf_header count)) }
+    ensures capacity { vec_capacity out.old ≤ vec_capacity out.new }
 {
     append_ident(out)?;
     append_halves(&[2, 92], out)?;
@@ -51,7 +55,9 @@ fn append_elf_header(count: u16, out: &mut Vec<u8>) -> Result<(), AllocError>
 
 #[tactic(auto, unfolding(crate::specs::Text::ident))]
 fn append_ident(out: &mut Vec<u8>) -> Result<(), AllocError>
-    ensures { OnOk result (out.new.items ≡ out.old.items ++ ident) }
+    ensures text { OnOk result (out.new.items ≡ out.old.items ++ ident) }
+    ensures full { OnErr result (vec_capacity out.old < vec_len out.old + length ident) }
+    ensures capacity { vec_capacity out.old ≤ vec_capacity out.new }
 {
     out.extend_from_slice(&[0x7f, 0x45, 0x4c, 0x46, 1, 2, 1, 0, 0, 0, 0, 0, 0, 0, 0, 0])
 }
@@ -66,7 +72,9 @@ fn headers_start(count: u16) -> u32
 #[tactic(auto, unfolding(crate::specs::Text::program_headers))]
 fn append_program_headers(pieces: &[Piece], start: u32, out: &mut Vec<u8>) -> Result<(), AllocError>
     requires { start + 4 * word_count pieces.now < 2 ^ 32 }
-    ensures { OnOk result (out.new.items ≡ out.old.items ++ program_headers start pieces.now) }
+    ensures text { OnOk result (out.new.items ≡ out.old.items ++ program_headers start pieces.now) }
+    ensures full { OnErr result (vec_capacity out.old < vec_len out.old + length (program_headers start pieces.now)) }
+    ensures capacity { vec_capacity out.old ≤ vec_capacity out.new }
 {
     let mut rest = pieces;
     let mut offset = start;
@@ -93,14 +101,18 @@ fn append_program_header(
     size: u32,
     out: &mut Vec<u8>,
 ) -> Result<(), AllocError>
-    ensures { OnOk result (out.new.items ≡ out.old.items ++ program_header offset place size) }
+    ensures text { OnOk result (out.new.items ≡ out.old.items ++ program_header offset place size) }
+    ensures full { OnErr result (vec_capacity out.old < vec_len out.old + length (program_header offset place size)) }
+    ensures capacity { vec_capacity out.old ≤ vec_capacity out.new }
 {
     append_words(&[1, offset, place, place, size, size, 7, 4], out)
 }
 
 #[tactic(auto, unfolding(crate::specs::Text::pieces_text))]
 fn append_pieces(pieces: &[Piece], out: &mut Vec<u8>) -> Result<(), AllocError>
-    ensures { OnOk result (out.new.items ≡ out.old.items ++ pieces_text pieces.now) }
+    ensures text { OnOk result (out.new.items ≡ out.old.items ++ pieces_text pieces.now) }
+    ensures full { OnErr result (vec_capacity out.old < vec_len out.old + length (pieces_text pieces.now)) }
+    ensures capacity { vec_capacity out.old ≤ vec_capacity out.new }
 {
     let mut rest = pieces;
     while let Some((piece, others)) = rest.split_first() {
@@ -112,7 +124,9 @@ fn append_pieces(pieces: &[Piece], out: &mut Vec<u8>) -> Result<(), AllocError>
 
 #[tactic(auto, unfolding(crate::specs::Text::words_text))]
 fn append_words(words: &[u32], out: &mut Vec<u8>) -> Result<(), AllocError>
-    ensures { OnOk result (out.new.items ≡ out.old.items ++ words_text words.now) }
+    ensures text { OnOk result (out.new.items ≡ out.old.items ++ words_text words.now) }
+    ensures full { OnErr result (vec_capacity out.old < vec_len out.old + length (words_text words.now)) }
+    ensures capacity { vec_capacity out.old ≤ vec_capacity out.new }
 {
     let mut rest = words;
     while let Some((word, others)) = rest.split_first() {
@@ -124,7 +138,9 @@ fn append_words(words: &[u32], out: &mut Vec<u8>) -> Result<(), AllocError>
 
 #[tactic(auto, unfolding(crate::specs::Text::halves_text))]
 fn append_halves(halves: &[u16], out: &mut Vec<u8>) -> Result<(), AllocError>
-    ensures { OnOk result (out.new.items ≡ out.old.items ++ halves_text halves.now) }
+    ensures text { OnOk result (out.new.items ≡ out.old.items ++ halves_text halves.now) }
+    ensures full { OnErr result (vec_capacity out.old < vec_len out.old + length (halves_text halves.now)) }
+    ensures capacity { vec_capacity out.old ≤ vec_capacity out.new }
 {
     let mut rest = halves;
     while let Some((half, others)) = rest.split_first() {
@@ -135,7 +151,9 @@ fn append_halves(halves: &[u16], out: &mut Vec<u8>) -> Result<(), AllocError>
 }
 
 fn append_half(half: u16, out: &mut Vec<u8>) -> Result<(), AllocError>
-    ensures { OnOk result (out.new.items ≡ out.old.items ++ big_bytes 2 half) }
+    ensures text { OnOk result (out.new.items ≡ out.old.items ++ big_bytes 2 half) }
+    ensures full { OnErr result (vec_capacity out.old < vec_len out.old + length (big_bytes 2 half)) }
+    ensures capacity { vec_capacity out.old ≤ vec_capacity out.new }
 {
     let mut bytes = [0; 2];
     BigEndian::write_u16(&mut bytes, half);
@@ -143,7 +161,9 @@ fn append_half(half: u16, out: &mut Vec<u8>) -> Result<(), AllocError>
 }
 
 fn append_word(word: u32, out: &mut Vec<u8>) -> Result<(), AllocError>
-    ensures { OnOk result (out.new.items ≡ out.old.items ++ big_bytes 4 word) }
+    ensures text { OnOk result (out.new.items ≡ out.old.items ++ big_bytes 4 word) }
+    ensures full { OnErr result (vec_capacity out.old < vec_len out.old + length (big_bytes 4 word)) }
+    ensures capacity { vec_capacity out.old ≤ vec_capacity out.new }
 {
     let mut bytes = [0; 4];
     BigEndian::write_u32(&mut bytes, word);

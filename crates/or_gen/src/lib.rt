@@ -1,7 +1,7 @@
 //! The workload that the board is measured and raced by: a source in the assembler syntax for a seed, cores and rounds.
 #![tactic(auto)]
 
-ghost use Rattle.std.specs.Prelude.{◌≡◌, ◌≤◌, ◌*◌, ◌/◌, ◌++◌, [], codes, length, OnOk, OnErr};
+ghost use Rattle.std.specs.Prelude.{◌≡◌, ◌≤◌, ◌<◌, ◌+◌, ◌*◌, ◌/◌, ◌++◌, [], codes, length, OnOk, OnErr, vec_capacity, vec_len};
 ghost use Rattle.std.specs.List.{flat_map};
 ghost use Rattle.or_gen.specs.Workload.{workload, lines_text, number_text, upper_text, lower_text, delay_text, delays_text, next_number, set_up_lines, wait_lines, count_lines, print_lines, end_lines};
 
@@ -10,7 +10,7 @@ use or_words::NoMemory;
 use std::alloc::AllocError;
 
 /// Appends the source of the workload of a seed, 1 to 8 cores and 1 to 100000 rounds of each. `out` is empty before, and again
-/// after `NoMemory`.
+/// after `NoMemory`, which comes only where it lacks the capacity for the whole source.
 pub fn program(seed: u32, cores: u32, rounds: u32, out: &mut Vec<u8>) -> Result<(), NoMemory>
     requires some_core { 1 ≤ cores }
     requires few_cores { cores ≤ 8 }
@@ -19,6 +19,7 @@ pub fn program(seed: u32, cores: u32, rounds: u32, out: &mut Vec<u8>) -> Result<
     requires empty { out.old.items ≡ [] }
     ensures text { OnOk result (out.new.items ≡ workload seed cores rounds) }
     ensures no_memory { OnErr result (out.new.items ≡ []) }
+    ensures full { OnErr result (vec_capacity out.old < length (workload seed cores rounds)) }
 
     // What the assembler asks of a source.
     ensures small { OnOk result (length out.new.items ≤ 4194304) }
@@ -37,7 +38,8 @@ fn append_workload(seed: u32, cores: u32, rounds: u32, out: &mut Vec<u8>) -> Res
     requires cores { cores ≤ 8 }
     requires rounds { rounds ≤ 100000 }
     requires empty { out.old.items ≡ [] }
-    ensures { OnOk result (out.new.items ≡ workload seed cores rounds) }
+    ensures text { OnOk result (out.new.items ≡ workload seed cores rounds) }
+    ensures full { OnErr result (vec_capacity out.old < length (workload seed cores rounds)) }
 {
     append_set_up(out)?;
     append_number("r6", cores * rounds, out)?;
@@ -52,7 +54,9 @@ fn append_workload(seed: u32, cores: u32, rounds: u32, out: &mut Vec<u8>) -> Res
 
 // Appends a line.
 fn append_line(line: &str, out: &mut Vec<u8>) -> Result<(), AllocError>
-    ensures { OnOk result (out.new.items ≡ out.old.items ++ (line.now ++ codes "\n")) }
+    ensures text { OnOk result (out.new.items ≡ out.old.items ++ (line.now ++ codes "\n")) }
+    ensures full { OnErr result (vec_capacity out.old < vec_len out.old + length ((line.now ++ codes "\n"))) }
+    ensures capacity { vec_capacity out.old ≤ vec_capacity out.new }
 {
     out.extend_from_slice(line.as_bytes())?;
     out.extend_from_slice(b"\n")
@@ -60,7 +64,9 @@ fn append_line(line: &str, out: &mut Vec<u8>) -> Result<(), AllocError>
 
 // Appends lines.
 fn append_lines(lines: &[&str], out: &mut Vec<u8>) -> Result<(), AllocError>
-    ensures { OnOk result (out.new.items ≡ out.old.items ++ flat_map (λ line. line.now ++ codes "\n") lines.now) }
+    ensures text { OnOk result (out.new.items ≡ out.old.items ++ flat_map (λ line. line.now ++ codes "\n") lines.now) }
+    ensures full { OnErr result (vec_capacity out.old < vec_len out.old + length (flat_map (λ line. line.now ++ codes "\n") lines.now)) }
+    ensures capacity { vec_capacity out.old ≤ vec_capacity out.new }
 {
     for line in lines {
         append_line(line, out)?;
@@ -71,14 +77,18 @@ fn append_lines(lines: &[&str], out: &mut Vec<u8>) -> Result<(), AllocError>
 // Appends the two instructions that give a register a number.
 #[tactic(auto, unfolding(crate::specs::Workload::number_text))]
 fn append_number(register: &str, number: u32, out: &mut Vec<u8>) -> Result<(), AllocError>
-    ensures { OnOk result (out.new.items ≡ out.old.items ++ number_text register.now number) }
+    ensures text { OnOk result (out.new.items ≡ out.old.items ++ number_text register.now number) }
+    ensures full { OnErr result (vec_capacity out.old < vec_len out.old + length (number_text register.now number)) }
+    ensures capacity { vec_capacity out.old ≤ vec_capacity out.new }
 {
     append_upper(register, number, out)?;
     append_lower(register, number, out)
 }
 
 fn append_upper(register: &str, number: u32, out: &mut Vec<u8>) -> Result<(), AllocError>
-    ensures { OnOk result (out.new.items ≡ out.old.items ++ upper_text register.now number) }
+    ensures text { OnOk result (out.new.items ≡ out.old.items ++ upper_text register.now number) }
+    ensures full { OnErr result (vec_capacity out.old < vec_len out.old + length (upper_text register.now number)) }
+    ensures capacity { vec_capacity out.old ≤ vec_capacity out.new }
 {
     out.extend_from_slice(b"l.movhi ")?;
     out.extend_from_slice(register.as_bytes())?;
@@ -88,7 +98,9 @@ fn append_upper(register: &str, number: u32, out: &mut Vec<u8>) -> Result<(), Al
 }
 
 fn append_lower(register: &str, number: u32, out: &mut Vec<u8>) -> Result<(), AllocError>
-    ensures { OnOk result (out.new.items ≡ out.old.items ++ lower_text register.now number) }
+    ensures text { OnOk result (out.new.items ≡ out.old.items ++ lower_text register.now number) }
+    ensures full { OnErr result (vec_capacity out.old < vec_len out.old + length (lower_text register.now number)) }
+    ensures capacity { vec_capacity out.old ≤ vec_capacity out.new }
 {
     out.extend_from_slice(b"l.ori ")?;
     out.extend_from_slice(register.as_bytes())?;
@@ -108,7 +120,9 @@ fn next_number(x: u32) -> u32
 
 // Appends the word of a delay.
 fn append_delay(delay: u32, out: &mut Vec<u8>) -> Result<(), AllocError>
-    ensures { OnOk result (out.new.items ≡ out.old.items ++ delay_text delay) }
+    ensures text { OnOk result (out.new.items ≡ out.old.items ++ delay_text delay) }
+    ensures full { OnErr result (vec_capacity out.old < vec_len out.old + length (delay_text delay)) }
+    ensures capacity { vec_capacity out.old ≤ vec_capacity out.new }
 {
     out.extend_from_slice(b".word ")?;
     append_decimal(u64::from(delay), out)?;
@@ -117,7 +131,9 @@ fn append_delay(delay: u32, out: &mut Vec<u8>) -> Result<(), AllocError>
 
 // Appends a word for each delay.
 fn append_delays(x: u32, cores: u32, out: &mut Vec<u8>) -> Result<(), AllocError>
-    ensures { OnOk result (out.new.items ≡ out.old.items ++ delays_text x cores) }
+    ensures text { OnOk result (out.new.items ≡ out.old.items ++ delays_text x cores) }
+    ensures full { OnErr result (vec_capacity out.old < vec_len out.old + length (delays_text x cores)) }
+    ensures capacity { vec_capacity out.old ≤ vec_capacity out.new }
 {
     if cores == 0 {
         return Ok(());
@@ -131,7 +147,9 @@ fn append_delays(x: u32, cores: u32, out: &mut Vec<u8>) -> Result<(), AllocError
 // The caches, the core's delay and the address of the counter.
 #[tactic(auto, unfolding(crate::specs::Workload::set_up_lines))]
 fn append_set_up(out: &mut Vec<u8>) -> Result<(), AllocError>
-    ensures { OnOk result (out.new.items ≡ out.old.items ++ lines_text set_up_lines) }
+    ensures text { OnOk result (out.new.items ≡ out.old.items ++ lines_text set_up_lines) }
+    ensures full { OnErr result (vec_capacity out.old < vec_len out.old + length (lines_text set_up_lines)) }
+    ensures capacity { vec_capacity out.old ≤ vec_capacity out.new }
 {
     append_lines(
         &[
@@ -155,7 +173,9 @@ fn append_set_up(out: &mut Vec<u8>) -> Result<(), AllocError>
 // A round waits as often as the delay says.
 #[tactic(auto, unfolding(crate::specs::Workload::wait_lines))]
 fn append_wait(out: &mut Vec<u8>) -> Result<(), AllocError>
-    ensures { OnOk result (out.new.items ≡ out.old.items ++ lines_text wait_lines) }
+    ensures text { OnOk result (out.new.items ≡ out.old.items ++ lines_text wait_lines) }
+    ensures full { OnErr result (vec_capacity out.old < vec_len out.old + length (lines_text wait_lines)) }
+    ensures capacity { vec_capacity out.old ≤ vec_capacity out.new }
 {
     append_lines(
         &[
@@ -173,7 +193,9 @@ fn append_wait(out: &mut Vec<u8>) -> Result<(), AllocError>
 // Then it adds one to the counter, and tries again until that succeeds; the core that brings the counter to its end prints it.
 #[tactic(auto, unfolding(crate::specs::Workload::count_lines))]
 fn append_count(out: &mut Vec<u8>) -> Result<(), AllocError>
-    ensures { OnOk result (out.new.items ≡ out.old.items ++ lines_text count_lines) }
+    ensures text { OnOk result (out.new.items ≡ out.old.items ++ lines_text count_lines) }
+    ensures full { OnErr result (vec_capacity out.old < vec_len out.old + length (lines_text count_lines)) }
+    ensures capacity { vec_capacity out.old ≤ vec_capacity out.new }
 {
     append_lines(
         &[
@@ -198,7 +220,9 @@ fn append_count(out: &mut Vec<u8>) -> Result<(), AllocError>
 // Eight hexadecimal digits.
 #[tactic(auto, unfolding(crate::specs::Workload::print_lines))]
 fn append_print(out: &mut Vec<u8>) -> Result<(), AllocError>
-    ensures { OnOk result (out.new.items ≡ out.old.items ++ lines_text print_lines) }
+    ensures text { OnOk result (out.new.items ≡ out.old.items ++ lines_text print_lines) }
+    ensures full { OnErr result (vec_capacity out.old < vec_len out.old + length (lines_text print_lines)) }
+    ensures capacity { vec_capacity out.old ≤ vec_capacity out.new }
 {
     append_lines(
         &[
@@ -226,7 +250,9 @@ fn append_print(out: &mut Vec<u8>) -> Result<(), AllocError>
 // A line feed; and the counter in memory.
 #[tactic(auto, unfolding(crate::specs::Workload::end_lines))]
 fn append_end(out: &mut Vec<u8>) -> Result<(), AllocError>
-    ensures { OnOk result (out.new.items ≡ out.old.items ++ lines_text end_lines) }
+    ensures text { OnOk result (out.new.items ≡ out.old.items ++ lines_text end_lines) }
+    ensures full { OnErr result (vec_capacity out.old < vec_len out.old + length (lines_text end_lines)) }
+    ensures capacity { vec_capacity out.old ≤ vec_capacity out.new }
 {
     append_lines(
         &[
