@@ -1,8 +1,8 @@
 // The host of named files and of two writers.
-ghost use Rattle.std.specs.Prelude.{◌≡◌, ◌≢◌, [], List, ℕ, None};
+ghost use Rattle.std.specs.Prelude.{◌≡◌, ◌≢◌, [], List, ℕ, None, vec_capacity};
 ghost use Rattle.or_host.specs.Counts.{LoadCounts, WriteCounts, SayCounts};
 ghost use Rattle.or_host.specs.Calls.{IsName, dash, Takes, Empties, Extends, Emits};
-ghost use Rattle.or_host.specs.Named.{Sends};
+ghost use Rattle.or_host.specs.Named.{Sends, LacksRoom};
 ghost use Rattle.or_host.specs.declared.host.Deed.{Deed};
 ghost use Rattle.or_host.specs.Blamed.{blamed};
 ghost use Rattle.or_host.specs.Told.{TellsSame};
@@ -68,6 +68,7 @@ impl<F: NamedFiles + Drop, O: Write + Drop, E: Write + Drop> Host for FileHost<F
         ensures written { TellsSame ((files_state F.holds self.old).written) ((files_state F.holds self.new).written) }
         ensures said { TellsSame ((files_state F.holds self.old).said) ((files_state F.holds self.new).said) }
         ensures counts { LoadCounts result (blamed Deed.Load name.now) (files_state F.holds self.old) (files_state F.holds self.new) }
+        ensures full { LacksRoom result (vec_capacity into.old) into.new.items }
         ensures writers { KeepsWriters self.old self.new }
     {
         let answer = load_named(&mut self.files, name, max, into);

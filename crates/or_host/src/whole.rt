@@ -1,9 +1,9 @@
 // Files read whole, and bytes written whole, by calls that each take a part.
-ghost use Rattle.std.specs.Prelude.{◌≡◌, ◌≢◌, [], List, ℕ, Some};
+ghost use Rattle.std.specs.Prelude.{◌≡◌, ◌≢◌, [], List, ℕ, Some, vec_capacity};
 ghost use Rattle.std.specs.Option.{option_map};
 ghost use Rattle.or_host.specs.Told.{Content, TellsSame};
 ghost use Rattle.or_host.specs.Calls.{Takes, Extends};
-ghost use Rattle.or_host.specs.Named.{Sends};
+ghost use Rattle.or_host.specs.Named.{Sends, LacksRoom};
 
 use crate::{Failed, LoadFail, NamedFiles};
 use std::io::{Read, Write};
@@ -18,6 +18,7 @@ pub(crate) fn load_named<F: NamedFiles>(
     requires { into.old.items ≡ [] }
     ensures taken { Takes result (F.holds files.old name.now) max into.new.items }
     ensures names { (other : List ℕ) → TellsSame (F.holds files.old other) (F.holds files.new other) }
+    ensures full { LacksRoom result (vec_capacity into.old) into.new.items }
 {
     match files.open(name) {
         Ok(mut file) => read_whole(&mut file, max, into),
@@ -28,7 +29,8 @@ pub(crate) fn load_named<F: NamedFiles>(
 // Reads to the end, or `max + 1` bytes.
 fn read_whole<F: Read>(file: &mut F, max: usize, into: &mut Vec<u8>) -> Result<(), LoadFail>
     requires { into.old.items ≡ [] }
-    ensures { Takes result (option_map Some (F.remaining file.old)) max into.new.items }
+    ensures taken { Takes result (option_map Some (F.remaining file.old)) max into.new.items }
+    ensures full { LacksRoom result (vec_capacity into.old) into.new.items }
 {
     let mut buffer = [0u8; 4096];
     while into.len() <= max {
