@@ -1,21 +1,22 @@
 -- A plain instruction leaves a quiet core quiet.
-use Rattle.std.proofs.Common.{◌≡◌, ℕ, ◌-◌, ◌/◌, ◌+◌, ◌<◌, Bool, true, false, cond, refl, ap, sym, ◌∙◌, subst, arith, rules}
-use Rattle.std.specs.Prelude.{Some, None, Result, Ok, Err, IfOk, slice_set, Option, ◌==◌, ℤ, not, ◌&&◌, bit_and}
+use Rattle.std.proofs.Common.{◌≡◌, ℕ, ◌-◌, ◌/◌, Bool, true, false, cond, refl, ap, sym, ◌∙◌, rules}
+use Rattle.std.specs.Prelude.{Some, Ok, Err, IfOk, slice_set, ◌==◌, ℤ, not, ◌&&◌, bit_and}
 use Rattle.std.proofs.lemmas.Nat.{and_or_apart, and_assoc}
 use Rattle.or_words.specs.declared.ShiftKind.{ShiftKind}
 use Rattle.or_words.specs.declared.ExtendKind.{ExtendKind}
 use Rattle.or_words.specs.declared.CompareCode.{CompareCode}
 use Rattle.or_words.specs.declared.MacKind.{MacKind}
 use Rattle.or_isa.specs.declared.Insn.{Insn}
-use Rattle.or_isa.specs.declared.Insn.TheVariants.{J, Jal, Bnf, Bf, Adrp, Nop, Sys, Trap, Movhi, Macrc, Msync, Psync, Csync, Rfe, Jr, Jalr, Maci, Lwa, Lwz, Lws, Lbz, Lbs, Lhz, Lhs, Addi, Addic, Xori, Muli, Andi, Ori, Mfspr, Slli, Srli, Srai, Rori, Sfeqi, Sfnei, Sfgtui, Sfgeui, Sfltui, Sfleui, Sfgtsi, Sfgesi, Sfltsi, Sflesi, Mtspr, Mac, Msb, Macu, Msbu, Swa, Sw, Sb, Sh, Add, Addc, Sub, And, Or, Xor, Cmov, Mul, Div, Divu, Mulu, Sll, Srl, Sra, Ror, Muld, Muldu, Ff1, Fl1, Exths, Extbs, Exthz, Extbz, Extws, Extwz, Sfeq, Sfne, Sfgtu, Sfgeu, Sfltu, Sfleu, Sfgts, Sfges, Sflts, Sfles}
-use Rattle.or_parts.specs.declared.Cause.{Cause}
+use Rattle.or_isa.specs.declared.Insn.TheVariants.{Jump, Branch, JumpRegister, PageAddress, Nop, SystemCall, Trap, MoveHigh, TakeAccumulator, Sync, ReturnFromException, Load, LoadLinked, Store, StoreConditional, ArithmeticImmediate, AndImmediate, OrImmediate, MoveFromSpecial, MoveToSpecial, ShiftImmediate, Shift, CompareImmediate, Compare, AccumulateImmediate, Accumulate, Arithmetic, Extend, FindFirst, FindLast}
+use Rattle.or_isa.specs.declared.ArithmeticKind.{ArithmeticKind}
+use Rattle.or_isa.specs.declared.ArithmeticKind.TheVariants as arithmetic
 use Rattle.or_parts.specs.declared.Cause.TheVariants.{Range}
 use Rattle.or_parts.specs.Bits.{has, with_bits}
-use Rattle.or_parts.specs.Timer.{ticked, is_tick_pending}
+use Rattle.or_parts.specs.Timer.{is_tick_pending}
 use Rattle.or_parts.specs.Interrupts.{is_pic_pending}
 use Rattle.or_model.specs.declared.Stop.TheVariants.{Exit}
 use Rattle.or_model.specs.Core.{Core, register, set_register, next_instruction, branched}
-use Rattle.or_model.specs.Execute.{put, with_carry, with_overflow, unless_overflow, put_with_flags, put_with_overflow, put_with_carry, put_sum, put_difference, put_product, put_quotient, put_unsigned_quotient, put_unsigned_product, put_shifted, put_extended, put_lowest_one, put_highest_one, put_chosen, put_flag, put_comparison, put_accumulator, accumulator_read, branched_where, called, after_nop, executed}
+use Rattle.or_model.specs.Execute.{put, with_carry, put_with_flags, put_with_overflow, put_with_carry, put_sum, put_difference, put_product, put_quotient, put_unsigned_quotient, put_unsigned_product, put_shifted, put_extended, put_lowest_one, put_highest_one, put_chosen, put_flag, put_comparison, put_accumulator, accumulator_read, branched_where, called, jumped, branched_on, after_nop, put_arithmetic, executed}
 use Rattle.or_core.specs.Quiet.{IsQuiet, SameControl, is_plain}
 
 SameControl-trans : {old middle new : Core} → SameControl old middle → SameControl middle new → SameControl old new
@@ -144,98 +145,62 @@ after_nop-control core k other = by_number (k == 1) refl
     by_number true is = absurd (search (rules, is))
     by_number false is = rw is (next_instruction-control core)
 
+jumped-control : (core : Core) (link : Bool) (to : ℕ) → SameControl core (jumped core link to)
+unfolding jumped
+jumped-control core true to = called-control core to
+jumped-control core false to = branched-control core to
+
+branched_on-control : (core : Core) (on : Bool) (n : ℤ) → SameControl core (branched_on core on n)
+unfolding branched_on
+branched_on-control core on n = branched_where-control core _ n
+
+put_arithmetic-control : (core : Core) (kind : ArithmeticKind) (d a b : ℕ) → IfOk (put_arithmetic core kind d a b) (SameControl core)
+unfolding put_arithmetic
+put_arithmetic-control core arithmetic.Add d a b = put_sum-control core d a b false
+put_arithmetic-control core arithmetic.AddWithCarry d a b = put_sum-control core d a b _
+put_arithmetic-control core arithmetic.Subtract d a b = put_difference-control core d a b
+put_arithmetic-control core arithmetic.And d a b = put-control core d _
+put_arithmetic-control core arithmetic.Or d a b = put-control core d _
+put_arithmetic-control core arithmetic.Xor d a b = put-control core d _
+put_arithmetic-control core arithmetic.Choose d a b = put_chosen-control core d a b
+put_arithmetic-control core arithmetic.Multiply d a b = put_product-control core d a b
+put_arithmetic-control core arithmetic.Divide d a b = put_quotient-control core d a b
+put_arithmetic-control core arithmetic.DivideUnsigned d a b = put_unsigned_quotient-control core d a b
+put_arithmetic-control core arithmetic.MultiplyUnsigned d a b = put_unsigned_product-control core d a b
+
 -- whatever a plain instruction makes of a core
 pub executed-control : (insn : Insn) (core : Core) → is_plain insn ≡ true → IfOk (executed insn core) (SameControl core)
 unfolding executed
-executed-control (J n) core plain = branched-control core _
-executed-control (Jal n) core plain = called-control core _
-executed-control (Bnf n) core plain = branched_where-control core _ _
-executed-control (Bf n) core plain = branched_where-control core _ _
-executed-control (Adrp d n) core plain = put-control core _ _
+executed-control (Jump link n) core plain = jumped-control core link _
+executed-control (Branch on n) core plain = branched_on-control core on n
+executed-control (JumpRegister link b) core plain = jumped-control core link _
+executed-control (PageAddress d n) core plain = put-control core _ _
 executed-control (Nop k) core plain = after_nop-control core k plain
-executed-control (Sys k) core plain = tt
+executed-control (SystemCall k) core plain = tt
 executed-control (Trap k) core plain = tt
-executed-control (Movhi d k) core plain = put-control core _ _
-executed-control (Macrc d) core plain = accumulator_read-control core _
-executed-control Msync core plain = next_instruction-control core
-executed-control Psync core plain = next_instruction-control core
-executed-control Csync core plain = next_instruction-control core
-executed-control Rfe core plain = absurd (search rules)
-executed-control (Jr b) core plain = branched-control core _
-executed-control (Jalr b) core plain = called-control core _
-executed-control (Maci a i) core plain = put_accumulator-control core _ _ _
-executed-control (Addi d a i) core plain = put_sum-control core _ _ _ _
-executed-control (Addic d a i) core plain = put_sum-control core _ _ _ _
-executed-control (Xori d a i) core plain = put-control core _ _
-executed-control (Muli d a i) core plain = put_product-control core _ _ _
-executed-control (Andi d a k) core plain = put-control core _ _
-executed-control (Ori d a k) core plain = put-control core _ _
-executed-control (Mfspr d a k) core plain = put-control core _ _
-executed-control (Slli d a l) core plain = put_shifted-control core _ _ _ _
-executed-control (Srli d a l) core plain = put_shifted-control core _ _ _ _
-executed-control (Srai d a l) core plain = put_shifted-control core _ _ _ _
-executed-control (Rori d a l) core plain = put_shifted-control core _ _ _ _
-executed-control (Sfeqi a i) core plain = put_comparison-control core _ _ _
-executed-control (Sfnei a i) core plain = put_comparison-control core _ _ _
-executed-control (Sfgtui a i) core plain = put_comparison-control core _ _ _
-executed-control (Sfgeui a i) core plain = put_comparison-control core _ _ _
-executed-control (Sfltui a i) core plain = put_comparison-control core _ _ _
-executed-control (Sfleui a i) core plain = put_comparison-control core _ _ _
-executed-control (Sfgtsi a i) core plain = put_comparison-control core _ _ _
-executed-control (Sfgesi a i) core plain = put_comparison-control core _ _ _
-executed-control (Sfltsi a i) core plain = put_comparison-control core _ _ _
-executed-control (Sflesi a i) core plain = put_comparison-control core _ _ _
-executed-control (Mtspr a b k) core plain = absurd (search rules)
-executed-control (Mac a b) core plain = put_accumulator-control core _ _ _
-executed-control (Msb a b) core plain = put_accumulator-control core _ _ _
-executed-control (Macu a b) core plain = put_accumulator-control core _ _ _
-executed-control (Msbu a b) core plain = put_accumulator-control core _ _ _
-executed-control (Add d a b) core plain = put_sum-control core _ _ _ _
-executed-control (Addc d a b) core plain = put_sum-control core _ _ _ _
-executed-control (Sub d a b) core plain = put_difference-control core _ _ _
-executed-control (And d a b) core plain = put-control core _ _
-executed-control (Or d a b) core plain = put-control core _ _
-executed-control (Xor d a b) core plain = put-control core _ _
-executed-control (Cmov d a b) core plain = put_chosen-control core _ _ _
-executed-control (Mul d a b) core plain = put_product-control core _ _ _
-executed-control (Div d a b) core plain = put_quotient-control core _ _ _
-executed-control (Divu d a b) core plain = put_unsigned_quotient-control core _ _ _
-executed-control (Mulu d a b) core plain = put_unsigned_product-control core _ _ _
-executed-control (Sll d a b) core plain = put_shifted-control core _ _ _ _
-executed-control (Srl d a b) core plain = put_shifted-control core _ _ _ _
-executed-control (Sra d a b) core plain = put_shifted-control core _ _ _ _
-executed-control (Ror d a b) core plain = put_shifted-control core _ _ _ _
-executed-control (Muld a b) core plain = put_accumulator-control core _ _ _
-executed-control (Muldu a b) core plain = put_accumulator-control core _ _ _
-executed-control (Ff1 d a) core plain = put_lowest_one-control core _ _
-executed-control (Fl1 d a) core plain = put_highest_one-control core _ _
-executed-control (Exths d a) core plain = put_extended-control core _ _ _
-executed-control (Extbs d a) core plain = put_extended-control core _ _ _
-executed-control (Exthz d a) core plain = put_extended-control core _ _ _
-executed-control (Extbz d a) core plain = put_extended-control core _ _ _
-executed-control (Extws d a) core plain = put-control core _ _
-executed-control (Extwz d a) core plain = put-control core _ _
-executed-control (Sfeq a b) core plain = put_comparison-control core _ _ _
-executed-control (Sfne a b) core plain = put_comparison-control core _ _ _
-executed-control (Sfgtu a b) core plain = put_comparison-control core _ _ _
-executed-control (Sfgeu a b) core plain = put_comparison-control core _ _ _
-executed-control (Sfltu a b) core plain = put_comparison-control core _ _ _
-executed-control (Sfleu a b) core plain = put_comparison-control core _ _ _
-executed-control (Sfgts a b) core plain = put_comparison-control core _ _ _
-executed-control (Sfges a b) core plain = put_comparison-control core _ _ _
-executed-control (Sflts a b) core plain = put_comparison-control core _ _ _
-executed-control (Sfles a b) core plain = put_comparison-control core _ _ _
-executed-control (Lwa d a i) core plain = tt
-executed-control (Lwz d a i) core plain = tt
-executed-control (Lws d a i) core plain = tt
-executed-control (Lbz d a i) core plain = tt
-executed-control (Lbs d a i) core plain = tt
-executed-control (Lhz d a i) core plain = tt
-executed-control (Lhs d a i) core plain = tt
-executed-control (Swa a b i) core plain = tt
-executed-control (Sw a b i) core plain = tt
-executed-control (Sb a b i) core plain = tt
-executed-control (Sh a b i) core plain = tt
+executed-control (MoveHigh d k) core plain = put-control core _ _
+executed-control (TakeAccumulator d) core plain = accumulator_read-control core _
+executed-control (Sync kind) core plain = next_instruction-control core
+executed-control ReturnFromException core plain = absurd (search rules)
+executed-control (ArithmeticImmediate kind d a i) core plain = put_arithmetic-control core _ d _ _
+executed-control (AndImmediate d a k) core plain = put-control core _ _
+executed-control (OrImmediate d a k) core plain = put-control core _ _
+executed-control (MoveFromSpecial d a k) core plain = put-control core _ _
+executed-control (MoveToSpecial a b k) core plain = absurd (search rules)
+executed-control (ShiftImmediate kind d a l) core plain = put_shifted-control core _ _ _ _
+executed-control (Shift kind d a b) core plain = put_shifted-control core _ _ _ _
+executed-control (CompareImmediate code a i) core plain = put_comparison-control core _ _ _
+executed-control (Compare code a b) core plain = put_comparison-control core _ _ _
+executed-control (AccumulateImmediate a i) core plain = put_accumulator-control core _ _ _
+executed-control (Accumulate kind a b) core plain = put_accumulator-control core _ _ _
+executed-control (Arithmetic kind d a b) core plain = put_arithmetic-control core kind d _ _
+executed-control (Extend width sign d a) core plain = put_extended-control core _ _ _
+executed-control (FindFirst d a) core plain = put_lowest_one-control core _ _
+executed-control (FindLast d a) core plain = put_highest_one-control core _ _
+executed-control (Load width sign d a i) core plain = tt
+executed-control (LoadLinked d a i) core plain = tt
+executed-control (Store width a b i) core plain = tt
+executed-control (StoreConditional a b i) core plain = tt
 
 -- a bit of SR that decides it
 same_bit : (old new : Core) (mask : ℕ) → bit_and 0x56 mask ≡ mask → SameControl old new → has new.sr mask ≡ has old.sr mask

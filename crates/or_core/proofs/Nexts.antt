@@ -1,5 +1,5 @@
 -- A held word and the instruction beside it.
-use Rattle.std.proofs.Common.{◌≡◌, ℕ, Bool, true, false, Option, Some, None, refl, ap, sym, ◌∙◌, subst}
+use Rattle.std.proofs.Common.{◌≡◌, ℕ, Bool, Option, Some, None, refl, ◌∙◌, subst}
 use Rattle.std.specs.Prelude.{not, option_map, option_and_then}
 use Rattle.std.specs.Option.{option_or, ForSome}
 use Rattle.or_isa.specs.declared.Insn.{Insn}

@@ -1,23 +1,20 @@
 -- Steps of a quiet core.
-use Rattle.std.proofs.Common.{◌≡◌, ℕ, ◌+◌, ◌/◌, ◌%◌, ◌<◌, Bool, true, false, cond, Option, Some, None, Ok, refl, ap, sym, ◌∙◌, subst, arith, rules}
-use Rattle.std.specs.Prelude.{not, ◌==◌, ◌&&◌, is_some, option_map, IfOk, IfSome}
+use Rattle.std.proofs.Common.{◌≡◌, ℕ, ◌%◌, ◌<◌, Bool, true, false, cond, Option, Some, None, Ok, refl, ap, sym, ◌∙◌, subst, arith, rules}
+use Rattle.std.specs.Prelude.{not, is_some, option_map, IfOk, IfSome}
 use Rattle.std.specs.Option.{ForSome}
 use Rattle.std.proofs.lemmas.Bool.Decides.{nat_tests}
 use Rattle.or_isa.specs.declared.Insn.{Insn}
-use Rattle.or_isa.specs.declared.Insn.TheVariants.{Nop, Mtspr, Rfe, Lwa, Lwz, Lws, Lbz, Lbs, Lhz, Lhs, Swa, Sw, Sb, Sh}
+use Rattle.or_isa.specs.declared.Insn.TheVariants.{Load, LoadLinked, Store, StoreConditional, MoveToSpecial}
 use Rattle.or_isa.specs.Decode.{decode_of}
 use Rattle.or_isa.specs.Fits.{Fits}
 use Rattle.or_isa.specs.Bus.{needs_bus_of}
-use Rattle.or_parts.specs.Bits.{has}
 use Rattle.or_parts.specs.Lines.{held_word}
-use Rattle.or_parts.specs.Timer.{is_tick_pending}
-use Rattle.or_parts.specs.Interrupts.{is_pic_pending}
 use Rattle.or_parts.specs.declared.Cause.{Cause}
 use Rattle.or_model.specs.declared.Route.TheVariants.{At}
 use Rattle.or_model.specs.Core.{Core}
 use Rattle.or_model.specs.Execute.{executed}
 use Rattle.or_model.specs.Routes.{fetch_route}
-use Rattle.or_model.specs.Step.{due_interrupt, is_private, private_step, step_off_bus, step_by_insn, empty_world, outcome, completed, is_misplaced, retired, spr_number, wants_bus}
+use Rattle.or_model.specs.Step.{due_interrupt, is_private, private_step, step_off_bus, empty_world, outcome, completed, is_misplaced, retired, spr_number}
 use Rattle.or_core.specs.Next.{IsExecuted}
 use Rattle.or_core.specs.Quiet.{IsQuiet, SameControl, is_plain}
 use Rattle.or_core.proofs.Nexts.{executed-beside}
@@ -48,18 +45,11 @@ quiet-look core None quiet aligned low is fits = tt
 quiet-look core (Some insn) quiet aligned low is fits = quiet-next core insn quiet aligned low (sym is) fits
 
 plain-alone : (insn : Insn) (spr : ℕ) → is_plain insn ≡ true → needs_bus_of insn spr ≡ false
-plain-alone (Mtspr a b k) spr plain = absurd (search rules)
-plain-alone (Lwa d a i) spr plain = absurd (search rules)
-plain-alone (Lwz d a i) spr plain = absurd (search rules)
-plain-alone (Lws d a i) spr plain = absurd (search rules)
-plain-alone (Lbz d a i) spr plain = absurd (search rules)
-plain-alone (Lbs d a i) spr plain = absurd (search rules)
-plain-alone (Lhz d a i) spr plain = absurd (search rules)
-plain-alone (Lhs d a i) spr plain = absurd (search rules)
-plain-alone (Swa a b i) spr plain = absurd (search rules)
-plain-alone (Sw a b i) spr plain = absurd (search rules)
-plain-alone (Sb a b i) spr plain = absurd (search rules)
-plain-alone (Sh a b i) spr plain = absurd (search rules)
+plain-alone (Load width sign d a i) spr plain = absurd (search rules)
+plain-alone (LoadLinked d a i) spr plain = absurd (search rules)
+plain-alone (Store width a b i) spr plain = absurd (search rules)
+plain-alone (StoreConditional a b i) spr plain = absurd (search rules)
+plain-alone (MoveToSpecial a b k) spr plain = absurd (search rules)
 plain-alone _ spr plain = refl
 
 -- what became of a core whose next step was a plain instruction that met no exception

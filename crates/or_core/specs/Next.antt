@@ -7,7 +7,6 @@ use Rattle.or_isa.specs.Fits.{Fits}
 use Rattle.or_parts.specs.declared.Cause.{Cause}
 use Rattle.or_model.specs.Core.{Core, exception_entry}
 use Rattle.or_model.specs.World.{World}
-use Rattle.or_model.specs.DataAccess.{State}
 use Rattle.or_model.specs.Step.{step, step_by_insn, step_unheld, with_step_counted, is_private, wants_bus}
 use Rattle.or_core.specs.declared.next.Next.{Next}
 use Rattle.or_core.specs.declared.next.Next.TheVariants.{Enters, Held, Fetched}

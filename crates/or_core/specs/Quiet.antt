@@ -1,7 +1,7 @@
 -- When the steps of a core need no look at its timer, its interrupts and its translation.
-use Rattle.std.specs.Prelude.{◌≡◌, ◌/◌, Bool, true, false, not, ◌==◌, ◌&&◌, None, bit_and, Option, Some}
+use Rattle.std.specs.Prelude.{◌≡◌, ◌/◌, Bool, true, false, not, ◌==◌, ◌&&◌, bit_and, Some}
 use Rattle.or_isa.specs.declared.Insn.{Insn}
-use Rattle.or_isa.specs.declared.Insn.TheVariants.{Nop, Mtspr, Rfe, Lwa, Lwz, Lws, Lbz, Lbs, Lhz, Lhs, Swa, Sw, Sb, Sh}
+use Rattle.or_isa.specs.declared.Insn.TheVariants.{Nop, ReturnFromException, Load, LoadLinked, Store, StoreConditional, MoveToSpecial}
 use Rattle.or_parts.specs.Bits.{has}
 use Rattle.or_parts.specs.Timer.{is_tick_pending}
 use Rattle.or_parts.specs.Interrupts.{is_pic_pending}
@@ -29,19 +29,12 @@ pub record SameControl (old new : Core) : Type 0 where
 -- an instruction that asks nothing of the bus and writes none of that
 abbrev pub is_plain : Insn → Bool
 is_plain (Nop k) = not (k == 1)
-is_plain (Mtspr a b k) = false
-is_plain Rfe = false
-is_plain (Lwa d a i) = false
-is_plain (Lwz d a i) = false
-is_plain (Lws d a i) = false
-is_plain (Lbz d a i) = false
-is_plain (Lbs d a i) = false
-is_plain (Lhz d a i) = false
-is_plain (Lhs d a i) = false
-is_plain (Swa a b i) = false
-is_plain (Sw a b i) = false
-is_plain (Sb a b i) = false
-is_plain (Sh a b i) = false
+is_plain ReturnFromException = false
+is_plain (Load width sign d a i) = false
+is_plain (LoadLinked d a i) = false
+is_plain (Store width a b i) = false
+is_plain (StoreConditional a b i) = false
+is_plain (MoveToSpecial a b k) = false
 is_plain _ = true
 
 -- the next step executes an instruction that asks the bus

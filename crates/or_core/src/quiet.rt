@@ -51,19 +51,12 @@ fn is_plain(insn: &Insn) -> bool
 {
     match insn {
         Insn::Nop { k } => *k != 1,
-        Insn::Mtspr { .. }
-        | Insn::Rfe
-        | Insn::Lwa { .. }
-        | Insn::Lwz { .. }
-        | Insn::Lws { .. }
-        | Insn::Lbz { .. }
-        | Insn::Lbs { .. }
-        | Insn::Lhz { .. }
-        | Insn::Lhs { .. }
-        | Insn::Swa { .. }
-        | Insn::Sw { .. }
-        | Insn::Sb { .. }
-        | Insn::Sh { .. } => false,
+        Insn::ReturnFromException
+        | Insn::Load { .. }
+        | Insn::LoadLinked { .. }
+        | Insn::Store { .. }
+        | Insn::StoreConditional { .. }
+        | Insn::MoveToSpecial { .. } => false,
         _ => true,
     }
 }

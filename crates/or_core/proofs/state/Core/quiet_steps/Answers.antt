@@ -1,7 +1,5 @@
-use Rattle.std.proofs.Common.{◌≡◌, ◌-◌, ◌+◌, ◌<◌, ◌≤◌, ◌∙◌, sym, ap, arith, rules}
-
+use Rattle.std.proofs.Common.{◌≡◌, ◌-◌, ◌+◌, ◌∙◌, sym, ap, arith, rules}
 use Rattle.or_model.specs.Turn.{begun_within}
-use Rattle.or_model.specs.Step.{private_step}
 use Rattle.or_core.proofs.Begins.{begun_within-more}
 use Rattle.or_core.proofs.state.Core.quiet_steps.Goals as goal
 
