@@ -6,7 +6,7 @@ ghost use Rattle.or_turn.specs.Schedules.{board_of, IsDefined, core_at};
 ghost use Rattle.or_turn.specs.Rule.{SlotHolds, longer};
 ghost use Rattle.or_turn.specs.Told.{TakesBus, waiting_view, done_view, enrolled_view, closed_view, next_view, both_view, halves, JoinConfirmed};
 
-use super::waiters::Waiters;
+use super::waiters::{StayEnd, Waiters};
 use crate::plays::{Confirm, Divide, Draw, Enrol, Finish, Look, TurnRule, Unite};
 use crate::unit::Place;
 use crate::view::{OpenedWith, Transfer, View};
@@ -121,15 +121,14 @@ pub(crate) fn wait_for_bus<R: Wait>(
     unreachable!()
 }
 
-// Ends a stay: the next ticket is served, and the slot goes home with the turns that were made. With so many turns of all
-// cores; `spins` says that the core waits for another.
-pub(crate) fn finish(top: &Top, waiters: &Waiters, seat: &mut Place, turns: u64, spins: bool)
+// Ends a stay: the next ticket is served, and the slot goes home with the turns that were made.
+pub(crate) fn finish(top: &Top, waiters: &Waiters, seat: &mut Place, end: &StayEnd)
     requires table { (seat.old.table_id ≡ top.now.table_id) × (top.now.table_id.words ≡ 3) × (top.now.table_id.slots ≡ 1) }
     requires holds { (c : ℕ) × (turns : ℕ) × (transfer : TransferModel) × (seat.old.me.0.stage ≡ Holds) × (seat.old.me.0.cores ≡ c ∷ []) × (seat.old.me.1 ≡ (0, Some transfer) ∷ []) × (1 ≤ turns) × IsDefined seat.old.me.0.settings (seat.old.me.0.seen ++ replicate turns c) × SlotHolds seat.old.me.0.settings (seat.old.me.0.seen ++ replicate turns c) transfer }
     ensures same { (seat.new.table_id ≡ seat.old.table_id) × (seat.new.id ≡ seat.old.id) }
     ensures view { (transfer : TransferModel) → seat.old.me.1 ≡ (0, Some transfer) ∷ [] → seat.new.me ≡ (done_view seat.old.me.0 transfer.schedule.items, []) }
 {
-    let chosen = waiters.choose(turns, spins);
+    let chosen = waiters.choose(end);
     top.fetch_add::<Finish>(seat, SERVING, 1);
     waiters.hand_over(chosen);
 }

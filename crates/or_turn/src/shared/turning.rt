@@ -12,6 +12,7 @@ ghost use Rattle.or_turn.specs.Units.{view, begun, cores, IsOf};
 
 use super::Shared;
 use super::steps::{finish, wait_for_bus};
+use super::waiters::StayEnd;
 use crate::pace::Pace;
 use crate::unit::Unit;
 use crate::view::Transfer;
@@ -94,9 +95,13 @@ impl Shared {
         let mut transfer = top.exchange(&mut unit.seat, 0, None).unwrap();
         let core = &mut unit.cores.as_mut_slice()[0];
         stay(core, &mut transfer, follows, &mut unit.pace, most);
-        let turns = transfer.schedule.len() as u64;
+        let end = StayEnd {
+            turns: transfer.schedule.len() as u64,
+            most,
+            spins: unit.pace.spins(),
+        };
         top.exchange(&mut unit.seat, 0, Some(transfer));
-        finish(top, &self.waiters, &mut unit.seat, turns, unit.pace.spins());
+        finish(top, &self.waiters, &mut unit.seat, &end);
         unit.begun = None;
     }
 }

@@ -22,8 +22,16 @@ const SLEEPS: u64 = 2;
 
 const ANYBODY: u64 = 0;
 
-/// By so many turns of each other core may a waiter be passed.
-const PASSES: u64 = 256;
+/// What is known of a stay at its end.
+#[derive(Drop)]
+pub(crate) struct StayEnd {
+    /// How many turns have been made by all cores.
+    pub(crate) turns: u64,
+    /// How many turns it could have at most.
+    pub(crate) most: u32,
+    /// Whether its core waits for another.
+    pub(crate) spins: bool,
+}
 
 /// What the cores of a board say, by number.
 #[derive(Drop)]
@@ -142,17 +150,18 @@ impl Waiters {
         }
     }
 
-    /// The holder is about to give the bus back, after so many turns of all cores; `spins` says that its own core has nothing
-    /// to do but to wait for another. Answers who is to be woken, if the bus is kept for it, or soon will be.
-    pub(crate) fn choose(&self, turns: u64, spins: bool) -> Option<u32> {
-        self.turns.store(turns, Ordering::SeqCst);
+    /// The holder is about to give the bus back. A waiter is passed by fewer turns than two stays of each other core have, and
+    /// woken at half of them. Answers who is to be woken, if the bus is kept for it, or soon will be.
+    pub(crate) fn choose(&self, end: &StayEnd) -> Option<u32> {
+        self.turns.store(end.turns, Ordering::SeqCst);
         let Some((core, since)) = self.longest() else {
             self.kept_for.store(ANYBODY, Ordering::SeqCst);
             return None;
         };
-        let most = PASSES * self.cores.saturating_sub(1) as u64;
-        let passed = turns.saturating_sub(since);
-        let kept = spins || passed >= most;
+        let others = self.cores.saturating_sub(1) as u64;
+        let most = (end.most as u64 * 2).saturating_sub(1).wrapping_mul(others);
+        let passed = end.turns.saturating_sub(since);
+        let kept = end.spins || passed >= most;
         let kept_for = if kept { core as u64 + 1 } else { ANYBODY };
         self.kept_for.store(kept_for, Ordering::SeqCst);
         if kept || passed >= most / 2 {
