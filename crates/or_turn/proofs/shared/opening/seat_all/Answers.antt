@@ -1,5 +1,4 @@
 use Rattle.std.proofs.Common.{rules, ◌≡◌, ◌-◌, List, length, ap, ◌∙◌, arith, lit<, length-drop}
-use Rattle.std.proofs.lemmas.Grind.{common_steps}
 use Rattle.or_model.specs.Core.{Core}
 use Rattle.or_turn.specs.Schedules.{first_board}
 use Rattle.or_turn.proofs.Steps.{first_sound}
