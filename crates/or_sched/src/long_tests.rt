@@ -9,7 +9,6 @@ use std::alloc::{AllocError, Global};
 
 const COUNT: usize = 140_000;
 
-#[tactic(auto, using(crate::proofs::Zeros::zeros))]
 fn turns_of_core_0(alloc: Global, count: usize) -> Result<Vec<u8>, AllocError>
     ensures { IfOk result (λ turns. All (λ turn. turn < 1) turns.items × (length turns.items ≡ count)) }
 {
