@@ -30,8 +30,7 @@ const COMMANDS: [Help; 10] = [
     Help {
         name: "run",
         words: "IMAGE INPUT SCHED REPORT [--cores N] [--budget N] [--ram N] [--pic latched] [--stay N] [--status]",
-        text: "\
-    Runs the ELF32 file IMAGE, with the bytes of the file INPUT as console input (- for none), until every core has
+        text: "    Runs the ELF32 file IMAGE, with the bytes of the file INPUT as console input (- for none), until every core has
     stopped. Writes the recording of the order of turns to SCHED, the final cores to REPORT, and the console to standard
     output. A core stops by l.nop 1, with r3 as its exit value, or when it has used up its budget.
     --cores N        cores of the board, 1 to 8, default 1
@@ -48,16 +47,14 @@ const COMMANDS: [Help; 10] = [
     Help {
         name: "replay",
         words: "IMAGE INPUT SCHED REPORT",
-        text: "\
-    Follows the recording SCHED of a run of IMAGE with INPUT on one thread, and gives the same report and console.
+        text: "    Follows the recording SCHED of a run of IMAGE with INPUT on one thread, and gives the same report and console.
 ",
         example: "or1k replay program.elf - program.sched again.rep && cmp program.rep again.rep",
     },
     Help {
         name: "debug",
         words: "IMAGE INPUT SCHED SCRIPT",
-        text: "\
-    Checks a recorded run as replay does, and follows it as the lines of SCRIPT say: go, turn N, break C ADDR, watch ADDR,
+        text: "    Checks a recorded run as replay does, and follows it as the lines of SCRIPT say: go, turn N, break C ADDR, watch ADDR,
     regs C, mem ADDR N, lines C, last N. Writes what they show to standard output.
 ",
         example: "or1k debug program.elf - program.sched script",
@@ -65,8 +62,7 @@ const COMMANDS: [Help; 10] = [
     Help {
         name: "back",
         words: "IMAGE INPUT SCHED SCRIPT [--every N]",
-        text: "\
-    Follows a recorded run forward and back. SCRIPT has the lines of debug, back N (N turns back) and to N (to turn N).
+        text: "    Follows a recorded run forward and back. SCRIPT has the lines of debug, back N (N turns back) and to N (to turn N).
     --every N        turns between two checkpoints, 1 to 536870912, default 1048576
 ",
         example: "or1k back program.elf - program.sched script",
@@ -74,8 +70,7 @@ const COMMANDS: [Help; 10] = [
     Help {
         name: "race",
         words: "IMAGE INPUT SCHED",
-        text: "\
-    Follows a recorded run, and writes to standard output the words of RAM with a data race, each with the turns and cores
+        text: "    Follows a recorded run, and writes to standard output the words of RAM with a data race, each with the turns and cores
     of two racing accesses. An l.swa that stored is ordered before later l.lwa of its word; a plain store orders nothing.
 ",
         example: "or1k race program.elf - program.sched",
@@ -83,8 +78,7 @@ const COMMANDS: [Help; 10] = [
     Help {
         name: "prof",
         words: "IMAGE INPUT SCHED",
-        text: "\
-    Follows a recorded run, and writes to standard output how many steps each core made in each function of the image's
+        text: "    Follows a recorded run, and writes to standard output how many steps each core made in each function of the image's
     symbol table.
 ",
         example: "or1k prof program.elf - program.sched",
@@ -92,24 +86,21 @@ const COMMANDS: [Help; 10] = [
     Help {
         name: "asm",
         words: "SRC IMAGE",
-        text: "\
-    Assembles the source SRC and writes the ELF32 file of its program to IMAGE.
+        text: "    Assembles the source SRC and writes the ELF32 file of its program to IMAGE.
 ",
         example: "or1k asm program.s program.elf",
     },
     Help {
         name: "dis",
         words: "IMAGE",
-        text: "\
-    Writes the address, the word and the instruction of each word of IMAGE's segments to standard output.
+        text: "    Writes the address, the word and the instruction of each word of IMAGE's segments to standard output.
 ",
         example: "or1k dis program.elf",
     },
     Help {
         name: "gen",
         words: "SEED CORES ROUNDS SRC",
-        text: "\
-    Writes the source of a workload to SRC: CORES cores, 1 to 8, increment one counter ROUNDS times each, 1 to 100000,
+        text: "    Writes the source of a workload to SRC: CORES cores, 1 to 8, increment one counter ROUNDS times each, 1 to 100000,
     with delays that depend on SEED, 0 to 4294967295. Run its image with --cores CORES --budget 10000000 --ram 1.
 ",
         example: "or1k gen 1 4 1000 work.s",
@@ -117,8 +108,7 @@ const COMMANDS: [Help; 10] = [
     Help {
         name: "bench",
         words: "SEED CORES ROUNDS SCHED [--stay N]",
-        text: "\
-    Generates that workload, assembles it and runs it. Writes the recording to SCHED, and to standard output the line
+        text: "    Generates that workload, assembles it and runs it. Writes the recording to SCHED, and to standard output the line
     bench SEED CORES ROUNDS, then run and the console.
     --stay N         as for run
 ",
