@@ -13,6 +13,7 @@ use Rattle.or_parts.specs.declared.Cause.{Cause}
 use Rattle.or_parts.specs.declared.Cause.TheVariants.{Range}
 use Rattle.or_parts.specs.declared.SprRoute.{SprRoute}
 use Rattle.or_parts.specs.declared.SprRoute.TheVariants.{Own, General, DataMatch, DataTranslate, InsnMatch, InsnTranslate, DataDrop, InsnDrop, TickMode, TickCount, PicMask, PicStatus, Nothing}
+use Rattle.or_parts.specs.declared.registers.TheConstants.{GPR32}
 use Rattle.or_parts.specs.Exceptions.{kept_status}
 use Rattle.or_parts.specs.Special.{SpecialRegisters, own_written, spr_route}
 use Rattle.or_model.specs.declared.Stop.{Stop}
@@ -186,7 +187,7 @@ own_written-numbers own n v =
     (SameNumbers-cond own (record own { esr = v }) _ _ (record { number = refl; cores = refl })
     (SameNumbers-cond own (record own { maclo = v }) _ _ (record { number = refl; cores = refl })
     (SameNumbers-cond own (record own { machi = v }) _ _ (record { number = refl; cores = refl })
-    (SameNumbers-cond own (record own { shadow = slice_set own.shadow (n - 1056) v }) _ _ (record { number = refl; cores = refl })
+    (SameNumbers-cond own (record own { shadow = slice_set own.shadow (n - GPR32) v }) _ _ (record { number = refl; cores = refl })
     (record { number = refl; cores = refl })))))))
 
 special_written_by-counts : (core : Core) (n v : ℕ) (route : SprRoute) → SameCounts core (special_written_by core n v route)

@@ -1,8 +1,9 @@
 -- A core in all its parts, as one flat record.
-use Rattle.std.specs.Prelude.{ℕ, ◌==◌, Bool, false, if◌then◌else◌, List, Option, Some, None, slice_index, slice_set, replicate}
+use Rattle.std.specs.Prelude.{ℕ, ◌==◌, Bool, false, if◌then◌else◌, List, Option, Some, None, slice_index, slice_set, replicate, bit_or}
 use Rattle.or_words.specs.declared.Config.{Config}
 use Rattle.or_parts.specs.declared.Line.{Line}
 use Rattle.or_parts.specs.declared.Cause.{Cause}
+use Rattle.or_parts.specs.declared.status.TheConstants.{SM, FO}
 use Rattle.or_parts.specs.Bits.{has, plus}
 use Rattle.or_parts.specs.Lines.{no_lines}
 use Rattle.or_parts.specs.Translation.{no_pairs}
@@ -52,7 +53,7 @@ reset_core config number = record {
   branch = None;
   registers = replicate 32 0;
   shadow = replicate 32 0;
-  sr = 0x8001;
+  sr = bit_or FO SM;
   epcr = 0;
   eear = 0;
   esr = 0;
@@ -78,9 +79,9 @@ register core n = if n == 0 then 0 else slice_index core.registers n
 abbrev pub set_register : Core → ℕ → ℕ → Core
 set_register core n v = if n == 0 then core else record core { registers = slice_set core.registers n v }
 
--- SR bit SM: the core is in supervisor mode
+-- the core is in supervisor mode
 abbrev pub is_supervisor : Core → Bool
-is_supervisor core = has core.sr 0x1
+is_supervisor core = has core.sr SM
 
 -- the core goes on behind an instruction that is no jump
 unfoldable pub next_instruction : Core → Core

@@ -1,5 +1,6 @@
 -- How far a core has come, and what never changes of it.
 use Rattle.std.specs.Prelude.{◌≡◌, ℕ, ◌+◌, ◌<◌, ◌≤◌, Bool, true, false, None, IsTrue}
+use Rattle.or_words.specs.declared.limits.TheConstants.{MOST_PRIVATE_STEPS}
 use Rattle.or_model.specs.Core.{Core}
 use Rattle.or_model.specs.Turn.{Begun}
 
@@ -26,9 +27,9 @@ pub record AddsStep (old new : Core) : Type 0 where
   pub settings : SameSettings old new
   pub within : old.steps < old.budget → IsWithinBudget new
 
--- a turn was made: at least one step and at most 256, within the budget
+-- a turn was made: at least one step and at most those of a private stretch, within the budget
 pub record AddsTurn (old new : Core) : Type 0 where
   pub some : old.steps < new.steps
-  pub few : new.steps ≤ old.steps + 256
+  pub few : new.steps ≤ old.steps + MOST_PRIVATE_STEPS
   pub settings : SameSettings old new
   pub within : IsWithinBudget new

@@ -8,6 +8,7 @@ use Rattle.or_words.specs.Kind.{extended}
 use Rattle.or_parts.specs.declared.Cause.{Cause}
 use Rattle.or_parts.specs.declared.Cause.TheVariants.{BusError}
 use Rattle.or_parts.specs.declared.Right.TheVariants.{Load, Store}
+use Rattle.or_parts.specs.declared.status.TheConstants.{F}
 use Rattle.or_parts.specs.Bits.{with_bits}
 use Rattle.or_model.specs.declared.Route.{Route}
 use Rattle.or_model.specs.declared.Route.TheVariants.{Refused, At}
@@ -60,7 +61,7 @@ loaded_linked core world d ea = linked_by core world d ea (data_route core ea Wo
 
 -- the flag tells whether the store was made, and the link is used up
 abbrev pub with_success : Core → ℕ → Option (Answer Bool) → Outcome
-with_success core ea (Some answer) = Ok (record { core = next_instruction (record core { sr = with_bits core.sr 0x200 answer.value; linked = false }); world = answer.after })
+with_success core ea (Some answer) = Ok (record { core = next_instruction (record core { sr = with_bits core.sr F answer.value; linked = false }); world = answer.after })
 with_success core ea None = Err (BusError ea)
 
 abbrev pub conditional_by : Core → World → ℕ → ℕ → Route → Outcome

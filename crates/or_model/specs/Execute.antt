@@ -21,6 +21,7 @@ use Rattle.or_words.specs.Word.{signed, word_of, remainder, exceeds_unsigned, ex
 use Rattle.or_words.specs.Kind.{shifted, extended, compares, accumulated}
 use Rattle.or_parts.specs.declared.Cause.{Cause}
 use Rattle.or_parts.specs.declared.Cause.TheVariants.{Range, Syscall, Illegal, Trap as TrapCause}
+use Rattle.or_parts.specs.declared.status.TheConstants.{F, CY, OV, OVE}
 use Rattle.or_parts.specs.Bits.{has, with_bits, plus, immediate}
 use Rattle.or_model.specs.declared.Stop.TheVariants.{Exit}
 use Rattle.or_model.specs.Core.{Core, register, set_register, next_instruction, branched, exception_return}
@@ -32,20 +33,20 @@ put core d v = next_instruction (set_register core d v)
 
 -- the flags of SR: F, CY and OV
 abbrev pub flag : Core → Bool
-flag core = has core.sr 0x200
+flag core = has core.sr F
 
 abbrev pub carry : Core → Bool
-carry core = has core.sr 0x400
+carry core = has core.sr CY
 
 abbrev pub with_carry : Core → Bool → Core
-with_carry core cy = record core { sr = with_bits core.sr 0x400 cy }
+with_carry core cy = record core { sr = with_bits core.sr CY cy }
 
 abbrev pub with_overflow : Core → Bool → Core
-with_overflow core ov = record core { sr = with_bits core.sr 0x800 ov }
+with_overflow core ov = record core { sr = with_bits core.sr OV ov }
 
--- an overflow is a range exception where SR bit OVE asks for it, and then nothing is written
+-- an overflow is a range exception where OVE asks for it, and then nothing is written
 abbrev pub unless_overflow : Core → Bool → Core → Result Core Cause
-unless_overflow core ov next = if ov && has core.sr 0x1000 then Err Range else Ok next
+unless_overflow core ov next = if ov && has core.sr OVE then Err Range else Ok next
 
 -- a result with CY and OV, with OV alone, and with CY alone
 unfoldable pub put_with_flags : Core → ℕ → ℕ → Bool → Bool → Result Core Cause
@@ -94,7 +95,7 @@ put_chosen core d a b = put core d (if flag core then a else b)
 
 -- the flag F
 unfoldable pub put_flag : Core → Bool → Core
-put_flag core f = next_instruction (record core { sr = with_bits core.sr 0x200 f })
+put_flag core f = next_instruction (record core { sr = with_bits core.sr F f })
 
 unfoldable pub put_comparison : Core → CompareCode → ℕ → ℕ → Core
 put_comparison core code a b = put_flag core (compares code a b)

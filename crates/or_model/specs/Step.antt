@@ -6,6 +6,7 @@ use Rattle.or_isa.specs.Decode.{decode_of}
 use Rattle.or_isa.specs.Bus.{needs_bus_of}
 use Rattle.or_parts.specs.declared.Cause.{Cause}
 use Rattle.or_parts.specs.declared.Cause.TheVariants.{Tick, External, Illegal, BusError}
+use Rattle.or_parts.specs.declared.status.TheConstants.{TEE, IEE}
 use Rattle.or_parts.specs.Bits.{has, plus, immediate}
 use Rattle.or_parts.specs.Timer.{ticked, is_tick_pending}
 use Rattle.or_parts.specs.Interrupts.{is_pic_pending}
@@ -103,12 +104,12 @@ step_by_insn core world (Some insn) =
 unfoldable pub step_by_word : Core → World → ℕ → State
 step_by_word core world word = step_by_insn core world (decode_of word)
 
--- the interrupt that is due, which none is in a delay slot; the tick comes first, by SR bits TEE and IEE
+-- the interrupt that is due, which none is in a delay slot; the tick comes first, by TEE and IEE
 unfoldable pub due_interrupt : Core → Option Cause
 due_interrupt core =
     if is_some core.branch then None else
-    if has core.sr 0x2 && is_tick_pending core.ttmr then Some Tick else
-    if has core.sr 0x4 && is_pic_pending core.picmr core.picsr then Some External else
+    if has core.sr TEE && is_tick_pending core.ttmr then Some Tick else
+    if has core.sr IEE && is_pic_pending core.picmr core.picsr then Some External else
     None
 
 -- the core with the line that came with a fetch, if one came

@@ -1,5 +1,6 @@
 -- The trace of a turn: the pc before each of its steps.
 use Rattle.std.specs.Prelude.{ℕ, zero, suc, Bool, if◌then◌else◌, List, [], ◌∷◌, ◌++◌}
+use Rattle.or_words.specs.declared.limits.TheConstants.{MOST_PRIVATE_STEPS}
 use Rattle.or_model.specs.Core.{Core}
 use Rattle.or_model.specs.Step.{private_step}
 use Rattle.or_model.specs.Turn.{Begun, steps_alone, turn_begun}
@@ -11,7 +12,7 @@ trace_within (suc left) core = if steps_alone core then core.pc ∷ trace_within
 
 -- the pcs before the private steps of a turn
 unfoldable pub private_trace : Core → List ℕ
-private_trace core = trace_within 256 core
+private_trace core = trace_within MOST_PRIVATE_STEPS core
 
 -- the pc before the step on the bus, if one follows
 abbrev pub bus_trace : Begun → List ℕ

@@ -1,6 +1,7 @@
 -- Turns of cores, and the replay of a schedule.
 use Rattle.std.specs.Prelude.{ℕ, zero, suc, Bool, false, ◌&&◌, if◌then◌else◌, List, [], ◌∷◌, ◌++◌, Option, Some, None, is_none, slice_set, slice_get}
 use Rattle.or_words.specs.declared.Config.{Config}
+use Rattle.or_words.specs.declared.limits.TheConstants.{MOST_PRIVATE_STEPS}
 use Rattle.or_parts.specs.Interrupts.{status_sampled}
 use Rattle.or_model.specs.Core.{Core, reset_core}
 use Rattle.or_model.specs.World.{World}
@@ -22,9 +23,9 @@ unfoldable pub begun_within : ℕ → Core → Begun
 begun_within zero core = record { core = core; follows = false }
 begun_within (suc left) core = if steps_alone core then begun_within left (private_step core) else record { core = core; follows = is_none core.stop }
 
--- the private steps of a turn, at most 256
+-- the private steps of a turn
 unfoldable pub turn_begun : Core → Begun
-turn_begun core = begun_within 256 core
+turn_begun core = begun_within MOST_PRIVATE_STEPS core
 
 -- the PIC samples the board's interrupt lines
 abbrev pub sampled : Core → ℕ → Core

@@ -1,7 +1,8 @@
 -- Exception entry and return (OpenRISC 1000 Architecture Manual, chapter 6).
-use Rattle.std.specs.Prelude.{ℕ, Option, Some, None, is_some, bit_and, bit_or}
+use Rattle.std.specs.Prelude.{ℕ, ◌-◌, Option, Some, None, is_some, bit_and, bit_or}
 use Rattle.or_parts.specs.declared.Cause.{Cause}
 use Rattle.or_parts.specs.declared.Cause.TheVariants.{BusError, DataPageFault, InsnPageFault, Tick, Alignment, Illegal, External, DataMiss, InsnMiss, Range, Syscall, Trap}
+use Rattle.or_parts.specs.declared.status.TheConstants.{SM, DSX, FO, CLEARED_BY_ENTRY, WRITABLE}
 use Rattle.or_parts.specs.Bits.{with_bits, plus}
 
 -- the address of the handler
@@ -61,8 +62,8 @@ saved_pc Trap pc branch = restart_pc pc branch
 
 -- SR after an entry: SM is set, TEE, IEE, DME, IME and OVE are clear, and DSX tells of a delay slot
 abbrev pub entry_status : ℕ → Option ℕ → ℕ
-entry_status sr branch = with_bits (bit_or (bit_and sr 0xFFFFEF99) 0x1) 0x2000 (is_some branch)
+entry_status sr branch = with_bits (bit_or (bit_and sr (0xFFFFFFFF - CLEARED_BY_ENTRY)) SM) DSX (is_some branch)
 
 -- what SR keeps of a value: its bits that exist, and FO, which is always set
 abbrev pub kept_status : ℕ → ℕ
-kept_status v = bit_or (bit_and v 0x3E7F) 0x8000
+kept_status v = bit_or (bit_and v WRITABLE) FO

@@ -2,6 +2,9 @@
 //! The definitions stand in `specs/`; the types here are those that definitions and code share.
 #![tactic(auto)]
 
+pub mod registers;
+pub mod status;
+
 /// Why a core enters an exception (OpenRISC 1000 Architecture Manual, section 6.2).
 /// The number is the effective address that EEAR0 gets.
 #[derive(Clone, Copy, Debug, PartialEq, Eq)]

@@ -6,28 +6,13 @@ ghost use Rattle.or_parts.specs.Exceptions.{vector, fault_address, saved_pc, ent
 ghost use Rattle.or_parts.specs.Special.{spr_route, reset_registers, own_read, own_written};
 
 use crate::entry::{fault_address, next_pc, saved_pc, vector, with_bits};
+use or_parts::registers::{
+    COREID, CPUCFGR, DCCFGR, DMMUCFGR, EEAR0, EPCR0, ESR0, GPR32, GPR63, ICCFGR, IMMUCFGR, MACHI,
+    MACLO, NPC, NUMCORES, PPC, SR, UPR, VR,
+};
+use or_parts::status::{CLEARED_BY_ENTRY, CY, DSX, F, FO, OV, SM, WRITABLE};
 use or_parts::{Cause, Place, SprRoute};
 use std::marker::Model;
-
-/// Supervisor mode.
-const SM: u32 = 0x1;
-/// The set flag.
-const F: u32 = 0x200;
-/// The carry flag.
-const CY: u32 = 0x400;
-/// The overflow flag.
-const OV: u32 = 0x800;
-/// An exception came in a delay slot.
-const DSX: u32 = 0x2000;
-/// TEE, IEE, DME, IME and OVE, which an entry clears.
-const CLEARED_BY_ENTRY: u32 = 0x1066;
-/// The bits of SR that can be written.
-const WRITABLE: u32 = 0x3E7F;
-/// FO, which always reads 1.
-const FO: u32 = 0x8000;
-
-/// The number of the first shadow word.
-const SHADOW: u32 = 1056;
 
 /// SR, what an exception entry saves, the accumulator, the shadow words, and the numbers that
 /// COREID and NUMCORES read (OpenRISC 1000 Architecture Manual, section 4.3).
@@ -112,23 +97,23 @@ impl Sprs {
         ensures { result ≡ own_read self.now at.now.pc at.now.branch n }
     {
         match n {
-            0 => 0x1,
-            1 => 0x53F,
-            2 => 0x20,
-            3 | 4 => 0x18,
-            5 => 0x24B8,
-            6 => 0x4B8,
-            16 => next_pc(at),
-            17 => self.sr,
-            18 => at.pc,
-            32 => self.epcr,
-            48 => self.eear,
-            64 => self.esr,
-            128 => self.number,
-            129 => self.cores,
-            10241 => self.maclo,
-            10242 => self.machi,
-            1056..=1087 => self.shadow[(n - SHADOW) as usize],
+            VR => 0x1,
+            UPR => 0x53F,
+            CPUCFGR => 0x20,
+            DMMUCFGR | IMMUCFGR => 0x18,
+            DCCFGR => 0x24B8,
+            ICCFGR => 0x4B8,
+            NPC => next_pc(at),
+            SR => self.sr,
+            PPC => at.pc,
+            EPCR0 => self.epcr,
+            EEAR0 => self.eear,
+            ESR0 => self.esr,
+            COREID => self.number,
+            NUMCORES => self.cores,
+            MACLO => self.maclo,
+            MACHI => self.machi,
+            GPR32..=GPR63 => self.shadow[(n - GPR32) as usize],
             _ => 0,
         }
     }
@@ -141,13 +126,13 @@ impl Sprs {
         ensures { self.new ≡ own_written self.old n v }
     {
         match n {
-            17 => self.sr = kept_status(v),
-            32 => self.epcr = v,
-            48 => self.eear = v,
-            64 => self.esr = v,
-            10241 => self.maclo = v,
-            10242 => self.machi = v,
-            1056..=1087 => self.shadow[(n - SHADOW) as usize] = v,
+            SR => self.sr = kept_status(v),
+            EPCR0 => self.epcr = v,
+            EEAR0 => self.eear = v,
+            ESR0 => self.esr = v,
+            MACLO => self.maclo = v,
+            MACHI => self.machi = v,
+            GPR32..=GPR63 => self.shadow[(n - GPR32) as usize] = v,
             _ => {}
         }
     }
@@ -192,7 +177,7 @@ impl Sprs {
     /// Sets or clears F alone, bit 9 of SR.
     #[inline]
     pub fn set_flag(&mut self, f: bool)
-        ensures { self.new ≡ record self.old { sr = with_bits self.old.sr 0x200 f } }
+        ensures { self.new ≡ record self.old { sr = with_bits self.old.sr F f } }
     {
         self.sr = with_bits(self.sr, F, f);
     }
@@ -200,7 +185,7 @@ impl Sprs {
     /// Sets or clears CY alone, bit 10 of SR.
     #[inline]
     pub fn set_carry(&mut self, cy: bool)
-        ensures { self.new ≡ record self.old { sr = with_bits self.old.sr 0x400 cy } }
+        ensures { self.new ≡ record self.old { sr = with_bits self.old.sr CY cy } }
     {
         self.sr = with_bits(self.sr, CY, cy);
     }
@@ -208,7 +193,7 @@ impl Sprs {
     /// Sets or clears OV alone, bit 11 of SR.
     #[inline]
     pub fn set_overflow(&mut self, ov: bool)
-        ensures { self.new ≡ record self.old { sr = with_bits self.old.sr 0x800 ov } }
+        ensures { self.new ≡ record self.old { sr = with_bits self.old.sr OV ov } }
     {
         self.sr = with_bits(self.sr, OV, ov);
     }

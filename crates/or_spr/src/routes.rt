@@ -4,6 +4,11 @@ ghost use Rattle.std.specs.Prelude.{◌≡◌};
 ghost use Rattle.or_parts.specs.Special.{spr_route, FitsRoute};
 
 use or_parts::SprRoute;
+use or_parts::registers::{
+    COREID, DCBFR, DCBIR, DTLBW0MR0, DTLBW0MR63, DTLBW0TR0, DTLBW0TR63, EEAR0, EPCR0, ESR0, GPR0,
+    GPR31, GPR32, GPR63, ICBIR, ICCFGR, ITLBW0MR0, ITLBW0MR63, ITLBW0TR0, ITLBW0TR63, MACHI, MACLO,
+    NPC, NUMCORES, PICMR, PICSR, PPC, SR, TTCR, TTMR, VR,
+};
 
 /// Which part of a core keeps register `n` (OpenRISC 1000 Architecture Manual, section 4.3).
 /// The number in the answer is a general register below 32, or a set below 64.
@@ -13,19 +18,29 @@ pub fn route(n: u32) -> SprRoute
     ensures fits { FitsRoute result }
 {
     match n {
-        0..=6 | 16 | 17 | 18 | 32 | 48 | 64 | 128 | 129 | 1056..=1087 | 10241 | 10242 =>
-            SprRoute::Own,
-        1024..=1055 => SprRoute::General(n - 1024),
-        2560..=2623 => SprRoute::DataMatch(n - 2560),
-        2688..=2751 => SprRoute::DataTranslate(n - 2688),
-        4608..=4671 => SprRoute::InsnMatch(n - 4608),
-        4736..=4799 => SprRoute::InsnTranslate(n - 4736),
-        6146 | 6147 => SprRoute::DataDrop,
-        8194 => SprRoute::InsnDrop,
-        18432 => SprRoute::PicMask,
-        18434 => SprRoute::PicStatus,
-        20480 => SprRoute::TickMode,
-        20481 => SprRoute::TickCount,
+        VR..=ICCFGR
+        | NPC
+        | SR
+        | PPC
+        | EPCR0
+        | EEAR0
+        | ESR0
+        | COREID
+        | NUMCORES
+        | GPR32..=GPR63
+        | MACLO
+        | MACHI => SprRoute::Own,
+        GPR0..=GPR31 => SprRoute::General(n - GPR0),
+        DTLBW0MR0..=DTLBW0MR63 => SprRoute::DataMatch(n - DTLBW0MR0),
+        DTLBW0TR0..=DTLBW0TR63 => SprRoute::DataTranslate(n - DTLBW0TR0),
+        ITLBW0MR0..=ITLBW0MR63 => SprRoute::InsnMatch(n - ITLBW0MR0),
+        ITLBW0TR0..=ITLBW0TR63 => SprRoute::InsnTranslate(n - ITLBW0TR0),
+        DCBFR | DCBIR => SprRoute::DataDrop,
+        ICBIR => SprRoute::InsnDrop,
+        PICMR => SprRoute::PicMask,
+        PICSR => SprRoute::PicStatus,
+        TTMR => SprRoute::TickMode,
+        TTCR => SprRoute::TickCount,
         _ => SprRoute::Nothing,
     }
 }

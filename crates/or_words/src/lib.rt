@@ -5,6 +5,8 @@ ghost use Rattle.std.specs.Prelude.{◌≡◌, ℕ, ◌+◌, ◌-◌, ◌*◌, �
 ghost use Rattle.or_words.specs.Word.{signed, remainder, exceeds_unsigned, exceeds_signed, unsigned_sum, signed_sum, signed_quotient, quotient_overflows, unsigned_quotient, lowest_one, highest_one, IsLowestOne, IsHighestOne};
 ghost use Rattle.or_words.specs.Kind.{shifted, extended, compares, accumulated};
 
+pub mod limits;
+
 /// Memory ran out.
 #[derive(Clone, Copy, Debug, PartialEq, Eq)]
 pub struct NoMemory;
