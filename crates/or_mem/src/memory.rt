@@ -2,11 +2,13 @@
 
 ghost use Rattle.std.specs.Prelude.{◌≡◌, ℕ, ◌+◌, ◌*◌, ◌%◌, ◌<◌, ◌≤◌, length, replicate, IfOk, slice_index};
 ghost use Rattle.or_words.specs.declared.Width.TheVariants.{Word};
+ghost use Rattle.or_words.specs.declared.limits.TheConstants.{MOST_RAM, MOST_RAM_BYTES};
 ghost use Rattle.or_parts.specs.Memory.{value_at, stored, bytes_of};
 ghost use Rattle.or_parts.specs.Lines.{line_of, line_bytes};
 ghost use Rattle.or_mem.specs.Memory.{RamState, read_once, overwritten, zeroed};
 
 use crate::data_cache::{word_at, write_at};
+use or_words::limits::MIB;
 use or_words::{NoMemory, Width};
 use std::alloc::Global;
 use std::marker::Model;
@@ -21,21 +23,22 @@ pub struct Ram {
 impl Model for Ram {
     ghost use Rattle.std.specs.Prelude.{◌≡◌, ◌%◌, ◌≤◌, length};
     ghost use Rattle.or_mem.specs.Memory.{RamState};
+    ghost use Rattle.or_words.specs.declared.limits.TheConstants.{MIB, MOST_RAM_BYTES};
 
     ghost Value = { RamState };
 
     ghost view = { λ a. record { bytes = a.bytes.items; reads = a.reads } };
 
-    ghost invariant = { (λ a. (length a.bytes.items % 1048576 ≡ 0) × (length a.bytes.items ≤ 268435456)) };
+    ghost invariant = { (λ a. (length a.bytes.items % MIB ≡ 0) × (length a.bytes.items ≤ MOST_RAM_BYTES)) };
 }
 
 impl Ram {
     /// RAM of so many MiB, 1 to 256, all zero and never read. It fails only where memory runs out.
     pub fn open(alloc: Global, mib: u32) -> Result<Ram, NoMemory>
-        requires { mib ≤ 256 }
-        ensures { IfOk result (λ ram. ram ≡ record { bytes = replicate (mib * 1048576) 0; reads = 0 }) }
+        requires { mib ≤ MOST_RAM }
+        ensures { IfOk result (λ ram. ram ≡ record { bytes = replicate (mib * MIB) 0; reads = 0 }) }
     {
-        match vec![in alloc; 0; mib as usize * 1_048_576] {
+        match vec![in alloc; 0; mib as usize * MIB as usize] {
             Ok(bytes) => Ok(Ram { bytes, reads: 0 }),
             Err(_) => Err(NoMemory),
         }
@@ -44,8 +47,8 @@ impl Ram {
     /// The size in bytes, whole MiB, at most 256 of them.
     pub fn size(&self) -> u32
         ensures value { result ≡ length self.now.bytes }
-        ensures whole { result % 1048576 ≡ 0 }
-        ensures limit { result ≤ 268435456 }
+        ensures whole { result % MIB ≡ 0 }
+        ensures limit { result ≤ MOST_RAM_BYTES }
         ensures bytes { (i : ℕ) → slice_index self.now.bytes i < 256 }
     {
         size_of(&self.bytes) as u32
