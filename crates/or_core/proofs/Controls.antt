@@ -11,6 +11,7 @@ use Rattle.or_isa.specs.declared.Insn.TheVariants.{Jump, Branch, JumpRegister, P
 use Rattle.or_isa.specs.declared.ArithmeticKind.{ArithmeticKind}
 use Rattle.or_isa.specs.declared.ArithmeticKind.TheVariants as arithmetic
 use Rattle.or_parts.specs.declared.Cause.TheVariants.{Range}
+use Rattle.or_parts.specs.declared.status.TheConstants.{TEE, IEE, ICE, IME, F, CY, OV}
 use Rattle.or_parts.specs.Bits.{has, with_bits}
 use Rattle.or_parts.specs.Timer.{is_tick_pending}
 use Rattle.or_parts.specs.Interrupts.{is_pic_pending}
@@ -60,15 +61,15 @@ unless_overflow-control core next raises same =
 put_with_flags-control : (core : Core) (d v : ℕ) (cy ov : Bool) → IfOk (put_with_flags core d v cy ov) (SameControl core)
 unfolding put_with_flags
 put_with_flags-control core d v cy ov =
-    unless_overflow-control core _ _ (SameControl-trans (with_status-control core 0x400 cy refl refl) (SameControl-trans (with_status-control (with_carry core cy) 0x800 ov refl refl) (put-control _ d v)))
+    unless_overflow-control core _ _ (SameControl-trans (with_status-control core CY cy refl refl) (SameControl-trans (with_status-control (with_carry core cy) OV ov refl refl) (put-control _ d v)))
 
 put_with_overflow-control : (core : Core) (d v : ℕ) (ov : Bool) → IfOk (put_with_overflow core d v ov) (SameControl core)
 unfolding put_with_overflow
-put_with_overflow-control core d v ov = unless_overflow-control core _ _ (SameControl-trans (with_status-control core 0x800 ov refl refl) (put-control _ d v))
+put_with_overflow-control core d v ov = unless_overflow-control core _ _ (SameControl-trans (with_status-control core OV ov refl refl) (put-control _ d v))
 
 put_with_carry-control : (core : Core) (d v : ℕ) (cy : Bool) → SameControl core (put_with_carry core d v cy)
 unfolding put_with_carry
-put_with_carry-control core d v cy = SameControl-trans (with_status-control core 0x400 cy refl refl) (put-control _ d v)
+put_with_carry-control core d v cy = SameControl-trans (with_status-control core CY cy refl refl) (put-control _ d v)
 
 put_sum-control : (core : Core) (d a b : ℕ) (c : Bool) → IfOk (put_sum core d a b c) (SameControl core)
 unfolding put_sum
@@ -116,7 +117,7 @@ put_unsigned_product-control core d a b = put_with_carry-control core d _ _
 
 put_comparison-control : (core : Core) (code : CompareCode) (a b : ℕ) → SameControl core (put_comparison core code a b)
 unfolding put_comparison put_flag
-put_comparison-control core code a b = SameControl-trans (with_status-control core 0x200 _ refl refl) (next_instruction-control _)
+put_comparison-control core code a b = SameControl-trans (with_status-control core F _ refl refl) (next_instruction-control _)
 
 with_accumulator-control : (core : Core) (hi lo : ℕ) → SameControl core (record core { machi = hi; maclo = lo })
 with_accumulator-control core hi lo = record { ttmr = refl; picmr = refl; picsr = refl; status = refl; stop = refl }
@@ -212,13 +213,13 @@ same_bit old new mask among same =
 -- with the same control a core is quiet as before
 pub quiet-control : (old new : Core) → IsQuiet old → SameControl old new → IsQuiet new
 quiet-control old new quiet same = record {
-  cached = same_bit old new 0x10 refl same ∙ quiet.cached;
-  direct = same_bit old new 0x40 refl same ∙ quiet.direct;
+  cached = same_bit old new ICE refl same ∙ quiet.cached;
+  direct = same_bit old new IME refl same ∙ quiet.direct;
   still = ap (λ n. n / 0x40000000) same.ttmr ∙ quiet.still;
-  tick = ap (λ b. b && is_tick_pending new.ttmr) (same_bit old new 0x2 refl same) ∙ ap (λ n. has old.sr 0x2 && is_tick_pending n) same.ttmr ∙ quiet.tick;
+  tick = ap (λ b. b && is_tick_pending new.ttmr) (same_bit old new TEE refl same) ∙ ap (λ n. has old.sr TEE && is_tick_pending n) same.ttmr ∙ quiet.tick;
   external =
-      ap (λ b. b && is_pic_pending new.picmr new.picsr) (same_bit old new 0x4 refl same)
-      ∙ ap (λ n. has old.sr 0x4 && is_pic_pending n new.picsr) same.picmr
-      ∙ ap (λ n. has old.sr 0x4 && is_pic_pending old.picmr n) same.picsr
+      ap (λ b. b && is_pic_pending new.picmr new.picsr) (same_bit old new IEE refl same)
+      ∙ ap (λ n. has old.sr IEE && is_pic_pending n new.picsr) same.picmr
+      ∙ ap (λ n. has old.sr IEE && is_pic_pending old.picmr n) same.picsr
       ∙ quiet.external;
 }

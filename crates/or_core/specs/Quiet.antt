@@ -2,6 +2,7 @@
 use Rattle.std.specs.Prelude.{◌≡◌, ◌/◌, Bool, true, false, not, ◌==◌, ◌&&◌, bit_and, Some}
 use Rattle.or_isa.specs.declared.Insn.{Insn}
 use Rattle.or_isa.specs.declared.Insn.TheVariants.{Nop, ReturnFromException, Load, LoadLinked, Store, StoreConditional, MoveToSpecial}
+use Rattle.or_parts.specs.declared.status.TheConstants.{TEE, IEE, ICE, IME}
 use Rattle.or_parts.specs.Bits.{has}
 use Rattle.or_parts.specs.Timer.{is_tick_pending}
 use Rattle.or_parts.specs.Interrupts.{is_pic_pending}
@@ -12,11 +13,11 @@ use Rattle.or_core.specs.Next.{IsExecuted}
 
 -- SR has ICE and not IME, the tick timer does not count, and no interrupt that is enabled is pending
 pub record IsQuiet (core : Core) : Type 0 where
-  pub cached : has core.sr 0x10 ≡ true
-  pub direct : has core.sr 0x40 ≡ false
+  pub cached : has core.sr ICE ≡ true
+  pub direct : has core.sr IME ≡ false
   pub still : core.ttmr / 0x40000000 ≡ 0
-  pub tick : (has core.sr 0x2 && is_tick_pending core.ttmr) ≡ false
-  pub external : (has core.sr 0x4 && is_pic_pending core.picmr core.picsr) ≡ false
+  pub tick : (has core.sr TEE && is_tick_pending core.ttmr) ≡ false
+  pub external : (has core.sr IEE && is_pic_pending core.picmr core.picsr) ≡ false
 
 -- what decides whether a core is quiet: TTMR, PICMR, PICSR, and of SR the bits TEE, IEE, ICE and IME; and that it runs
 pub record SameControl (old new : Core) : Type 0 where

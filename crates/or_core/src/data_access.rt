@@ -16,15 +16,10 @@ ghost use Rattle.or_core.specs.Access.{access_at};
 use crate::state::{Core, has};
 use or_bus::{AccessKind, Bus};
 use or_model::Route;
+use or_parts::status::{DCE, DME, SM};
 use or_parts::{Cause, Right, TlbFault};
 use or_words::{ExtendKind, Width, extend};
 
-/// SR's supervisor mode, data cache enable and data MMU enable.
-const SM: u32 = 0x1;
-
-const DCE: u32 = 0x8;
-
-const DME: u32 = 0x20;
 /// Physical addresses from here on are not cached.
 pub(crate) const UNCACHED: u32 = 0x8000_0000;
 

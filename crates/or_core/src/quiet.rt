@@ -11,19 +11,11 @@ ghost use Rattle.or_core.specs.Quiet.{IsQuiet, SameControl, is_plain, IsAhead};
 use crate::data_access::UNCACHED;
 use crate::state::{Core, has};
 use or_isa::{Insn, needs_bus};
+use or_parts::status::{ICE, IEE, IME, TEE};
+use or_words::limits::MOST_PRIVATE_STEPS;
 
-/// SR's tick and external interrupt enables, instruction cache enable and instruction MMU enable.
-const TEE: u32 = 0x2;
-
-const IEE: u32 = 0x4;
-
-const ICE: u32 = 0x10;
-
-const IME: u32 = 0x40;
 /// The unit of M, the mode of TTMR.
 const MODE: u32 = 0x4000_0000;
-/// The private steps of a turn.
-const STEPS: u32 = 256;
 
 /// The first steps of a turn, of a core that was quiet.
 #[derive(Clone, Copy)]
@@ -157,7 +149,7 @@ impl Core {
         if !self.is_quiet() {
             return Stretch::of(0);
         }
-        let room = (self.budget - 1 - self.steps).min(STEPS);
+        let room = (self.budget - 1 - self.steps).min(MOST_PRIVATE_STEPS);
         for made in 0..room {
             let Some(Some(insn)) = self.quiet_insn() else {
                 return Stretch::of(made);

@@ -11,17 +11,11 @@ ghost use Rattle.or_model.specs.Counts.{SameCounts};
 use crate::state::{Core, has};
 use or_model::Stop;
 use or_parts::Cause;
+use or_parts::status::{CY, F, OVE};
 use or_words::{
     CompareCode, ExtendKind, MacKind, ShiftKind, add, compare, div, divu, extend, ff1, fl1, mac,
     mul, mulu, shift, sub,
 };
-
-/// SR's set flag, carry flag and overflow exception enable.
-const F: u32 = 0x200;
-
-const CY: u32 = 0x400;
-
-const OVE: u32 = 0x1000;
 
 impl Core {
     // The set flag.
@@ -244,7 +238,7 @@ impl Core {
 
     #[inline(always)]
     pub(crate) fn set_flag(&mut self, f: bool)
-        ensures state { self.new ≡ record self.old { sr = with_bits self.old.sr 0x200 f } }
+        ensures state { self.new ≡ record self.old { sr = with_bits self.old.sr F f } }
         ensures counts { SameCounts self.old self.new }
     {
         self.sprs.set_flag(f);

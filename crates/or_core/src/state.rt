@@ -10,17 +10,13 @@ ghost use Rattle.or_model.specs.Counts.{SameCounts, SameSettings};
 
 use or_icache::ICache;
 use or_model::Stop;
+use or_parts::status::{IEE, TEE};
 use or_parts::{Cause, Place};
 use or_spr::Sprs;
 use or_tick_pic::{Pic, Tick};
 use or_tlb::Tlb;
 use or_words::Config;
 use std::marker::Model;
-
-/// Interrupts by the tick timer are enabled.
-const TEE: u32 = 0x2;
-/// Interrupts by the PIC are enabled.
-const IEE: u32 = 0x4;
 
 /// A core of the board: its registers, translation tables, instruction lines, tick timer and
 /// interrupt controller, and how far it has come (OpenRISC 1000 Architecture Manual, chapter 4).
@@ -47,6 +43,7 @@ impl Model for Core {
     ghost use Rattle.std.specs.Prelude.{◌≡◌, ◌≤◌, ◌<◌, Option, None, true, false, slice_index};
     ghost use Rattle.or_model.specs.Core.{Core as CoreState};
     ghost use Rattle.or_model.specs.declared.Stop.{Stop};
+    ghost use Rattle.or_words.specs.declared.limits.TheConstants.{MOST_BUDGET};
 
     ghost Value = { CoreState };
 
@@ -80,7 +77,7 @@ impl Model for Core {
     ghost invariant = { λ a.
         (a.number ≡ a.sprs.number)
         × (a.steps ≤ a.budget)
-        × (a.budget ≤ 67108864)
+        × (a.budget ≤ MOST_BUDGET)
         × (a.stop ≡ None → a.steps < a.budget)
         × (slice_index a.registers 0 ≡ 0)
         × (a.data_tlb.fetches ≡ false)

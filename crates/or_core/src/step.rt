@@ -21,14 +21,8 @@ use crate::state::{Core, has};
 use or_bus::Bus;
 use or_isa::{Insn, decode, needs_bus};
 use or_model::Route;
+use or_parts::status::{ICE, IME, SM};
 use or_parts::{Cause, Right, TlbFault};
-
-/// SR's supervisor mode, instruction cache enable and instruction MMU enable.
-const SM: u32 = 0x1;
-
-const ICE: u32 = 0x10;
-
-const IME: u32 = 0x40;
 
 impl Core {
     // Where the next instruction lies.

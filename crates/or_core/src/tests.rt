@@ -5,27 +5,11 @@ use crate::{Core, Stop};
 use arrayvec::ArrayVec;
 use or_bus::{Access, AccessKind, Bus};
 use or_mem::Ram;
+use or_parts::registers::{EEAR0, EPCR0, ESR0, PICMR, PICSR, SR, TTCR, TTMR};
 use or_words::{Config, NoMemory, Width};
 use std::alloc::Global;
 use std::process::Abort;
 use std::test::Fail;
-
-/// Numbers of special registers.
-const SR: u32 = 17;
-
-const EPCR: u32 = 32;
-
-const EEAR: u32 = 48;
-
-const ESR: u32 = 64;
-
-const PICMR: u32 = 18432;
-
-const PICSR: u32 = 18434;
-
-const TTMR: u32 = 20480;
-
-const TTCR: u32 = 20481;
 
 // What is done with a core on a board of eight.
 #[derive(Clone, Copy)]
@@ -275,8 +259,8 @@ fn sums_and_quotients_set_their_flags(rt: HostRuntime) -> Result<(), Fail> {
         &[
             Found::Register(3, 7),
             Found::Place(0xb00, None),
-            Found::Special(EPCR, 0x100),
-            Found::Special(ESR, 0x9401),
+            Found::Special(EPCR0, 0x100),
+            Found::Special(ESR0, 0x9401),
             Found::Special(SR, 0x8401),
         ],
     )
@@ -293,8 +277,8 @@ fn delay_slots(rt: HostRuntime) -> Result<(), Fail> {
         &[Act::Steps(2)],
         &[
             Found::Place(0x700, None),
-            Found::Special(EPCR, 0x100),
-            Found::Special(ESR, 0x8001),
+            Found::Special(EPCR0, 0x100),
+            Found::Special(ESR0, 0x8001),
             Found::Special(SR, 0xa001),
         ],
     )?;
@@ -307,15 +291,15 @@ fn delay_slots(rt: HostRuntime) -> Result<(), Fail> {
         &[
             Act::Store(0, 0x100, 0x0000_0040),
             Act::Store(0, 0x104, 0x2000_0000),
-            Act::SetSpecial(EEAR, 0x1234),
+            Act::SetSpecial(EEAR0, 0x1234),
             Act::Steps(2),
         ],
         &[
             Found::Place(0xc00, None),
-            Found::Special(EPCR, 0x200),
-            Found::Special(ESR, 0x8001),
+            Found::Special(EPCR0, 0x200),
+            Found::Special(ESR0, 0x8001),
             Found::Special(SR, 0xa001),
-            Found::Special(EEAR, 0x1234),
+            Found::Special(EEAR0, 0x1234),
         ],
     )?;
     // The handler's own jumps fail too, until the budget ends.
@@ -328,8 +312,8 @@ fn delay_slots(rt: HostRuntime) -> Result<(), Fail> {
         &[
             Found::Made(4, Some(Stop::Budget)),
             Found::Place(0x700, None),
-            Found::Special(EPCR, 0x700),
-            Found::Special(ESR, 0xa001),
+            Found::Special(EPCR0, 0x700),
+            Found::Special(ESR0, 0xa001),
             Found::Special(SR, 0xa001),
         ],
     )
@@ -362,9 +346,9 @@ fn a_store_in_a_delay_slot_misses_its_page(rt: HostRuntime) -> Result<(), Fail> 
         &[a, b, c, d, e, f, g, h, i, j, k, l, Act::Steps(4)],
         &[
             Found::Place(0x900, None),
-            Found::Special(EPCR, 0x180),
-            Found::Special(EEAR, 0x4000),
-            Found::Special(ESR, 0x8021),
+            Found::Special(EPCR0, 0x180),
+            Found::Special(EEAR0, 0x4000),
+            Found::Special(ESR0, 0x8021),
             Found::Special(SR, 0xa001),
             Found::Word(0x4000, 0),
         ],
@@ -565,8 +549,8 @@ fn another_core_interrupts(rt: HostRuntime) -> Result<(), Fail> {
         ],
         &[
             Found::Place(0x800, None),
-            Found::Special(EPCR, 0x100),
-            Found::Special(ESR, 0x8015),
+            Found::Special(EPCR0, 0x100),
+            Found::Special(ESR0, 0x8015),
         ],
     )?;
     // The signal is taken back, and the next turn's end shows it.
@@ -608,7 +592,7 @@ fn the_tick_timer_interrupts(rt: HostRuntime) -> Result<(), Fail> {
         ],
         &[
             Found::Place(0x500, None),
-            Found::Special(EPCR, 0x20c),
+            Found::Special(EPCR0, 0x20c),
             Found::Special(TTCR, 0),
             Found::Special(TTMR, 0x7000_0003),
         ],
@@ -731,8 +715,8 @@ fn illegal_words(rt: HostRuntime) -> Result<(), Fail> {
             &[Act::Store(0, 0x100, word), Act::Steps(1)],
             &[
                 Found::Place(0x700, None),
-                Found::Special(EPCR, 0x100),
-                Found::Special(ESR, 0x8001),
+                Found::Special(EPCR0, 0x100),
+                Found::Special(ESR0, 0x8001),
                 Found::Made(1, None),
             ],
         )?;

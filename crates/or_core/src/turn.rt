@@ -17,6 +17,7 @@ use crate::state::Core;
 use arrayvec::ArrayVec;
 use or_bus::Bus;
 use or_isa::Insn;
+use or_words::limits::MOST_PRIVATE_STEPS;
 
 /// What the private steps of a turn have come to.
 #[derive(Clone, Copy)]
@@ -45,7 +46,7 @@ impl Core {
                 ahead: quiet.ahead,
             };
         }
-        for made in quiet.made..256 {
+        for made in quiet.made..MOST_PRIVATE_STEPS {
             match self.try_private() {
                 Private::Stepped => {}
                 Private::NeedsBus => {
