@@ -1,5 +1,6 @@
 -- The four lines of a head, and what stands behind them.
 use Rattle.std.specs.Prelude.{◌≡◌, ℕ, ◌≤◌, List, ◌∷◌, ◌++◌, codes, decimal, Bool, true, ◌⊎◌}
+use Rattle.or_words.specs.declared.limits.TheConstants.{MOST_CORES, MOST_BUDGET, MOST_RAM}
 use Rattle.or_text.specs.Hexadecimal.{digest_text}
 use Rattle.or_sched.specs.HeadText.{form_text}
 use Rattle.or_sched.specs.declared.head.Known.{Known}
@@ -27,9 +28,9 @@ known_text final end = codes "orsched " ++ (decimal final.version ++ 10 ∷ (cod
 -- settings and digests that fit, and that the version can say
 pub record KnownFits (known : Known) : Type 0 where
   pub version : (known.version ≡ 1) ⊎ (known.version ≡ 2)
-  pub cores : (1 ≤ known.cores) × (known.cores ≤ 8)
-  pub budget : (1 ≤ known.budget) × (known.budget ≤ 67108864)
-  pub ram : (1 ≤ known.ram) × (known.ram ≤ 256)
+  pub cores : (1 ≤ known.cores) × (known.cores ≤ MOST_CORES)
+  pub budget : (1 ≤ known.budget) × (known.budget ≤ MOST_BUDGET)
+  pub ram : (1 ≤ known.ram) × (known.ram ≤ MOST_RAM)
   pub latched : known.latched ≡ true → known.version ≡ 2
   pub digests : AreDigests known
 

@@ -2,6 +2,7 @@
 use Rattle.std.specs.Prelude.{◌≡◌, ℕ, ◌+◌, ◌≤◌, ◌<◌, ◌==◌, List, [], ◌∷◌, ◌++◌, Option, Some, None, codes, take, length, true, false, ◌⊎◌, if◌then◌else◌, slice_set}
 use Rattle.std.specs.Fmt.{digit_glyph}
 use Rattle.std.proofs.Props.{props}
+use Rattle.or_words.specs.declared.limits.TheConstants.{MOST_CORES, MOST_BUDGET, MOST_RAM}
 use Rattle.or_text.specs.Hexadecimal.{digest_text}
 use Rattle.or_sched.specs.declared.head.Known.{Known}
 use Rattle.or_sched.specs.declared.head.Literal.{Literal}
@@ -139,16 +140,16 @@ module _ (final : Known) (end : List ℕ) where
 
   abbrev pub AtRam : Known → Option ℕ → List ℕ → Type 0
   AtRam known number rest =
-      InField number 10 1 256 (λ ram more. InText (AtImage (record known { ram = ram; latched = false }) []) (literal_bytes Image) 0 more) rest
-      ⊎ ((known.version ≡ 2) × InField number 32 1 256
+      InField number 10 1 MOST_RAM (λ ram more. InText (AtImage (record known { ram = ram; latched = false }) []) (literal_bytes Image) 0 more) rest
+      ⊎ ((known.version ≡ 2) × InField number 32 1 MOST_RAM
       (λ ram more. InText (AtSecond (record known { ram = ram; latched = true })) (literal_bytes Latched) 0 more) rest)
 
   abbrev pub AtBudget : Known → Option ℕ → List ℕ → Type 0
-  AtBudget known number rest = InField number 32 1 67108864
+  AtBudget known number rest = InField number 32 1 MOST_BUDGET
       (λ budget more. InText (AtRam (record known { budget = budget }) None) (literal_bytes Ram) 0 more) rest
 
   abbrev pub AtCores : Known → Option ℕ → List ℕ → Type 0
-  AtCores known number rest = InField number 32 1 8
+  AtCores known number rest = InField number 32 1 MOST_CORES
       (λ cores more. InText (AtBudget (record known { cores = cores }) None) (literal_bytes Budget) 0 more) rest
 
   abbrev pub AtFirst : Known → List ℕ → Type 0
@@ -198,9 +199,9 @@ HeadStepIs known place byte Refused = (final : Known) (end rest : List ℕ) → 
 HeadStepIs known place byte (Goes next known_next) = HeadStepKeeps known place byte known_next next × AreDigests known_next
 
 abbrev pub field_most : Field → ℕ
-field_most CoresField = 8
-field_most BudgetField = 67108864
-field_most RamField = 256
+field_most CoresField = MOST_CORES
+field_most BudgetField = MOST_BUDGET
+field_most RamField = MOST_RAM
 
 abbrev pub IsNumberFrom : Option ℕ → ℕ → Type 0
 IsNumberFrom None most = Unit {0}
@@ -220,13 +221,13 @@ HeadSound (Digits line count high) = (count ≤ 32) × IsHigh high count
 HeadSound Behind = Unit {0}
 
 abbrev pub HasCores : Known → Type 0
-HasCores known = (1 ≤ known.cores) × (known.cores ≤ 8)
+HasCores known = (1 ≤ known.cores) × (known.cores ≤ MOST_CORES)
 
 abbrev pub HasBudget : Known → Type 0
-HasBudget known = HasCores known × (1 ≤ known.budget) × (known.budget ≤ 67108864)
+HasBudget known = HasCores known × (1 ≤ known.budget) × (known.budget ≤ MOST_BUDGET)
 
 abbrev pub HasSettings : Known → Type 0
-HasSettings known = HasBudget known × (1 ≤ known.ram) × (known.ram ≤ 256)
+HasSettings known = HasBudget known × (1 ≤ known.ram) × (known.ram ≤ MOST_RAM)
 
 -- the settings that came before the place are in their ranges
 abbrev pub LiteralSound : Known → Literal → Type 0

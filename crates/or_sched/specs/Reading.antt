@@ -1,5 +1,6 @@
 -- What a reader has read.
 use Rattle.std.specs.Prelude.{◌≡◌, ℕ, ◌+◌, ◌-◌, ◌*◌, ◌≤◌, ◌<◌, ◌==◌, List, [], ◌∷◌, ◌++◌, take, length, Option, Some, None, min, if◌then◌else◌, Result, Ok, Err, nat_le}
+use Rattle.or_words.specs.declared.limits.TheConstants.{BLOCK}
 use Rattle.or_sched.specs.declared.recording.Head.{Head}
 use Rattle.or_sched.specs.declared.recording.Mark.{Mark}
 use Rattle.or_sched.specs.declared.head.Known.{Known}
@@ -31,13 +32,13 @@ head_of known = record {
 }
 
 abbrev pub limits_of : Known → Limits
-limits_of known = record { cores = known.cores; turns = known.cores * known.budget; block = 65536 }
+limits_of known = record { cores = known.cores; turns = known.cores * known.budget; block = BLOCK }
 
 -- in version 1 all turns are one block, and no mark stands behind it
 abbrev pub first_block_of : ℕ → ℕ → Block
 first_block_of version turns =
     if version == 1 then record { left = turns; behind = None }
-    else record { left = min turns 65536; behind = if nat_le 65536 turns then Some (turns - 65536) else None }
+    else record { left = min turns BLOCK; behind = if nat_le BLOCK turns then Some (turns - BLOCK) else None }
 
 abbrev pub first_of : Known → Place
 first_of known = First (first_block_of known.version (known.cores * known.budget))

@@ -1,6 +1,7 @@
 -- What text is a recording, where a text stops being the beginning of one, and what has ended in a beginning.
 use Rattle.std.specs.Prelude.{◌≡◌, ℕ, ◌+◌, ◌-◌, ◌<◌, ◌==◌, List, [], ◌++◌, take, length, map, count_by, false, ◌⊎◌, if◌then◌else◌, nat_lt}
 use Rattle.or_words.specs.Settings.{Fits}
+use Rattle.or_words.specs.declared.limits.TheConstants.{BLOCK}
 use Rattle.or_sched.specs.declared.recording.Head.{Head}
 use Rattle.or_sched.specs.declared.recording.Mark.{Mark}
 use Rattle.or_sched.specs.declared.recording.RecFault.{RecFault}
@@ -66,7 +67,7 @@ pub record Ended (front : List ℕ) (turns : List ℕ) (marks : List Mark) : Typ
   pub version1 : (rest : List ℕ) (head : Head) (all : List ℕ) → IsRecording1 (front ++ rest) head all
       → AreEnded (length front - length (head_text1 head)) (map run_item (runs all)) turns marks
   pub version2 : (rest : List ℕ) (head : Head) (all : List ℕ) (all_marks : List Mark) → IsRecording2 (front ++ rest) head all all_marks
-      → AreEnded (length front - length (head_text2 head)) (blocks_items 65536 all_marks all) turns marks
+      → AreEnded (length front - length (head_text2 head)) (blocks_items BLOCK all_marks all) turns marks
 
 -- the longest beginning of these bytes with which some recording begins
 pub record IsReadable (bytes front : List ℕ) : Type 0 where

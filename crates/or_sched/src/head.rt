@@ -7,6 +7,7 @@ ghost use Rattle.or_sched.specs.declared.head.HeadPlace.{HeadPlace};
 use crate::recording::Head;
 use crate::step::more_digits;
 use or_words::Config;
+use or_words::limits::{MOST_BUDGET, MOST_CORES, MOST_RAM};
 
 /// What the head said so far.
 #[derive(Clone, Copy)]
@@ -240,9 +241,9 @@ fn most(field: Field) -> u64
     ensures { result ≡ field_most field }
 {
     match field {
-        Field::Cores => 8,
-        Field::Budget => 67_108_864,
-        Field::Ram => 256,
+        Field::Cores => u64::from(MOST_CORES),
+        Field::Budget => u64::from(MOST_BUDGET),
+        Field::Ram => u64::from(MOST_RAM),
     }
 }
 

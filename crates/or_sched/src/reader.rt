@@ -13,10 +13,8 @@ use crate::places::{Block, Limits, Place, Step};
 use crate::recording::{Head, Mark, RecFault};
 use crate::state::{Body, Heading, State};
 use crate::step::step;
+use or_words::limits::BLOCK;
 use std::alloc::AllocError;
-
-// How many turns a block has.
-const BLOCK: u64 = 65536;
 
 /// A reader of a recording in version 1 or 2, which keeps neither its bytes nor its turns.
 #[derive(Drop)]
@@ -228,7 +226,7 @@ fn first_place(known: &Known, count: u64) -> Body
     let limits = Limits {
         cores: known.cores as u8,
         turns,
-        block: BLOCK,
+        block: BLOCK as u64,
     };
     Body {
         limits,
@@ -247,15 +245,15 @@ fn first_block(version: u8, turns: u64) -> Block
             behind: None,
         };
     }
-    if turns < BLOCK {
+    if turns < BLOCK as u64 {
         return Block {
             left: turns,
             behind: None,
         };
     }
     Block {
-        left: BLOCK,
-        behind: Some(turns - BLOCK),
+        left: BLOCK as u64,
+        behind: Some(turns - BLOCK as u64),
     }
 }
 

@@ -9,11 +9,9 @@ ghost use Rattle.or_sched.specs.Schedule.{IsSchedule, AreMarks};
 
 use crate::recording::{Head, Mark};
 use or_text::{append_decimal, append_digest};
+use or_words::limits::BLOCK;
 use or_words::{Config, NoMemory};
 use std::alloc::AllocError;
-
-// How many turns a block has.
-const BLOCK: usize = 65536;
 
 /// Writes the recording of some turns, in version 2, to an empty list.
 ///
@@ -45,7 +43,7 @@ fn append_recording(
     marks: &[Mark],
     out: &mut Vec<u8>,
 ) -> Result<(), AllocError>
-    requires marks { 65536 * length marks.now ≤ length turns.now }
+    requires marks { BLOCK * length marks.now ≤ length turns.now }
     requires cores { All (λ turn. turn < 8) turns.now }
     ensures text { OnOk result (out.new.items ≡ out.old.items ++ rec_text2 head.now turns.now marks.now) }
     ensures full { OnErr result (vec_capacity out.old < vec_len out.old + length (rec_text2 head.now turns.now marks.now)) }
