@@ -2,6 +2,7 @@
 use Rattle.std.specs.Prelude.{ℕ, ◌+◌, ◌*◌, ◌/◌, ◌%◌, ◌<◌, ◌≤◌, ◌==◌, Bool, not, ◌&&◌, nat_lt, nat_le, List, [], ◌∷◌, map, length, slice_index, drop, if◌then◌else◌, Option, Some, None}
 use Rattle.std.specs.List.{filter, find, list_any, range_with_len}
 use Rattle.std.specs.Option.{option_map}
+use Rattle.or_words.specs.declared.limits.TheConstants.{IMAGE_LIMIT}
 use Rattle.or_elf.specs.declared.symbol_fault.SymFault.{SymFault}
 use Rattle.or_elf.specs.declared.symbol_fault.SymFault.TheVariants.{BadSections, BadTable, BadName, NoMemory}
 use Rattle.or_elf.specs.declared.sections.Section.{Section}
@@ -122,7 +123,7 @@ symbol_fault bytes =
 -- the section headers of a file of a length that can be read lie in it
 pub record HasSections (bytes : List ℕ) : Type 0 where
   pub long : 52 ≤ length bytes
-  pub short : length bytes ≤ 67108864
+  pub short : length bytes ≤ IMAGE_LIMIT
   pub table : sections_start bytes + 40 * section_count bytes ≤ length bytes
 
 -- a symbol table lies in the file, as does the section of its names

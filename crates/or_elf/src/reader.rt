@@ -1,6 +1,7 @@
 // Reads a file, one test after another.
 ghost use Rattle.std.specs.Prelude.{◌≡◌, ◌≢◌, ◌≤◌, ◌<◌, ◌+◌, ◌*◌, length, None, Some, MatchResult, IfOk, OnOk, slice_index};
 ghost use Rattle.std.specs.List.{All};
+ghost use Rattle.or_words.specs.declared.limits.TheConstants.{IMAGE_LIMIT};
 ghost use Rattle.or_elf.specs.Header.{half_at, word_at, table_start, header_count, header_start, segment_at, segments};
 ghost use Rattle.or_elf.specs.Fault.{elf_fault, length_fault, ident_fault, header_fault, table_fault, segment_fault, segments_fault, field_fault, IsInside};
 
@@ -13,7 +14,7 @@ use arrayvec::ArrayVec;
 /// at least one of them to be loaded, and each that is to be loaded lies in the file and in RAM. All else is ignored.
 #[tactic(auto, unfolding(crate::specs::Fault::elf_fault))]
 pub fn read(bytes: &[u8], ram: u32) -> Result<Image, ElfFault>
-    requires { length bytes.now ≤ 67108864 }
+    requires { length bytes.now ≤ IMAGE_LIMIT }
     ensures answer { MatchResult result
         (λ image. (elf_fault bytes.now ram ≡ None) × (image.segments ≡ segments bytes.now))
         (λ fault. elf_fault bytes.now ram ≡ Some fault) }
@@ -29,7 +30,7 @@ pub fn read(bytes: &[u8], ram: u32) -> Result<Image, ElfFault>
 }
 
 fn check_length(bytes: &[u8]) -> Result<(), ElfFault>
-    requires { length bytes.now ≤ 67108864 }
+    requires { length bytes.now ≤ IMAGE_LIMIT }
     ensures { MatchResult result (λ _. (length_fault bytes.now ≡ None) × (52 ≤ length bytes.now)) (λ fault. length_fault bytes.now ≡ Some fault) }
 {
     if bytes.len() < 52 {
@@ -91,7 +92,7 @@ fn check_header(bytes: &[u8]) -> Result<(), ElfFault>
 
 fn check_table(bytes: &[u8]) -> Result<(), ElfFault>
     requires long { 52 ≤ length bytes.now }
-    requires short { length bytes.now ≤ 67108864 }
+    requires short { length bytes.now ≤ IMAGE_LIMIT }
     requires count { header_count bytes.now ≤ 64 }
     ensures { MatchResult result
         (λ _. (table_fault bytes.now ≡ None) × (0 < header_count bytes.now → table_start bytes.now + 32 * header_count bytes.now ≤ length bytes.now))
@@ -112,7 +113,7 @@ fn check_table(bytes: &[u8]) -> Result<(), ElfFault>
 // The headers of type 1.
 fn collect(bytes: &[u8]) -> ArrayVec<Segment, 64>
     requires long { 52 ≤ length bytes.now }
-    requires short { length bytes.now ≤ 67108864 }
+    requires short { length bytes.now ≤ IMAGE_LIMIT }
     requires count { header_count bytes.now ≤ 64 }
     requires table { 0 < header_count bytes.now → table_start bytes.now + 32 * header_count bytes.now ≤ length bytes.now }
     ensures { result.items ≡ segments bytes.now }

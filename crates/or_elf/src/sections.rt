@@ -1,5 +1,6 @@
 // The section headers of a file, and its symbol table.
 ghost use Rattle.std.specs.Prelude.{◌≡◌, ◌≤◌, ◌<◌, ◌+◌, ◌*◌, ◌/◌, ◌==◌, Some, None, length, MatchResult, IfSome, take, drop, ◌^◌};
+ghost use Rattle.or_words.specs.declared.limits.TheConstants.{IMAGE_LIMIT};
 ghost use Rattle.or_elf.specs.Header.{half_at, word_at};
 ghost use Rattle.or_elf.specs.Symbols.{sections_start, section_count, section_start, section_at, has_sections, symbol_table, linked, names_of, sections_fault, table_fault, ends_within, HasSections, HasTable};
 
@@ -24,7 +25,7 @@ pub fn has_sections(bytes: &[u8]) -> bool
 
 pub fn check_sections(bytes: &[u8]) -> Result<(), SymFault>
     requires long { 52 ≤ length bytes.now }
-    requires short { length bytes.now ≤ 67108864 }
+    requires short { length bytes.now ≤ IMAGE_LIMIT }
     ensures { MatchResult result
         (λ _. (sections_fault bytes.now ≡ None) × HasSections bytes.now)
         (λ fault. sections_fault bytes.now ≡ Some fault) }

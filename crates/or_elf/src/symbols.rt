@@ -2,6 +2,7 @@
 ghost use Rattle.std.specs.Prelude.{◌≡◌, ◌⊎◌, ◌≤◌, ◌<◌, ◌+◌, ◌*◌, ◌==◌, ◌++◌, Some, None, length, take, drop, MatchResult, IfOk, OnOk, OnErr, if◌then◌else◌, ◌^◌};
 ghost use Rattle.or_elf.specs.Header.{word_at};
 ghost use Rattle.std.specs.List.{find, list_any};
+ghost use Rattle.or_words.specs.declared.limits.TheConstants.{IMAGE_LIMIT};
 ghost use Rattle.or_elf.specs.Symbols.{section_count, symbol_fault, symbols_of, contents_fault, symbol_table, symbols_in, no_symbols, HasSections, HasTable, is_function, symbol_start, function_at, functions_among, functions_of, names_fault, has_end, covers, later_start, innermost, function_of, shown, name_text, symbol_name};
 
 use crate::SymFault;
@@ -45,7 +46,7 @@ impl Symbols {
     #[tactic(auto, unfolding(crate::specs::Symbols::symbol_fault, crate::specs::Symbols::symbols_of))]
     pub fn read(alloc: Global, bytes: &[u8]) -> Result<Symbols, SymFault>
         requires long { 52 ≤ length bytes.now }
-        requires short { length bytes.now ≤ 67108864 }
+        requires short { length bytes.now ≤ IMAGE_LIMIT }
         ensures { MatchResult result
             (λ symbols. (symbol_fault bytes.now ≡ None) × (symbols ≡ symbols_of bytes.now))
             (λ fault. (fault ≡ SymFault.NoMemory) ⊎ (symbol_fault bytes.now ≡ Some fault)) }
@@ -151,7 +152,7 @@ fn functions_from(
     first: usize,
     count: u32,
 ) -> Result<Vec<Function>, AllocError>
-    requires short { length bytes.now ≤ 67108864 }
+    requires short { length bytes.now ≤ IMAGE_LIMIT }
     requires inside { first + 16 * count ≤ length bytes.now }
     ensures { IfOk result (λ list. list.items ≡ functions_among bytes.now first 0 count) }
 {
@@ -166,7 +167,7 @@ fn functions_from(
 }
 
 fn is_function(bytes: &[u8], start: usize) -> bool
-    requires short { length bytes.now ≤ 67108864 }
+    requires short { length bytes.now ≤ IMAGE_LIMIT }
     requires inside { start + 16 ≤ length bytes.now }
     ensures { result ≡ is_function bytes.now start }
 {
@@ -174,7 +175,7 @@ fn is_function(bytes: &[u8], start: usize) -> bool
 }
 
 fn function_in(bytes: &[u8], first: usize, index: u32) -> Function
-    requires short { length bytes.now ≤ 67108864 }
+    requires short { length bytes.now ≤ IMAGE_LIMIT }
     requires inside { symbol_start first index + 16 ≤ length bytes.now }
     ensures { result ≡ function_at bytes.now first index }
 {
