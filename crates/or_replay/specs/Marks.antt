@@ -1,5 +1,6 @@
 -- The marks of a schedule: how far the board's history has come after each block of turns.
 use Rattle.std.specs.Prelude.{ℕ, zero, suc, ◌*◌, ◌/◌, ◌%◌, ◌==◌, if◌then◌else◌, List, [], ◌∷◌, ◌++◌, Option, Some, None, length, take, min}
+use Rattle.or_words.specs.declared.limits.TheConstants.{BLOCK}
 use Rattle.or_sched.specs.declared.recording.Mark.{Mark}
 use Rattle.or_mem.specs.Memory.{last_count}
 use Rattle.or_model.specs.World.{World}
@@ -18,10 +19,10 @@ abbrev pub block_marks : ℕ → Board → List ℕ → ℕ → List Mark
 block_marks block start turns zero = []
 block_marks block start turns (suc n) = block_marks block start turns n ++ mark_after (replay start (take (block * suc n) turns)) ∷ []
 
--- the marks behind each whole block of 65536 turns
+-- the marks behind each whole block of turns
 unfoldable pub marks : Board → List ℕ → List Mark
-marks start turns = block_marks 65536 start turns (length turns / 65536)
+marks start turns = block_marks BLOCK start turns (length turns / BLOCK)
 
 -- the marks once a block may have ended
 abbrev pub with_mark : ℕ → World → List Mark → List Mark
-with_mark made world kept = if made % 65536 == 0 then kept ++ mark_of world ∷ [] else kept
+with_mark made world kept = if made % BLOCK == 0 then kept ++ mark_of world ∷ [] else kept

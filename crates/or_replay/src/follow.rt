@@ -8,9 +8,7 @@ ghost use Rattle.or_replay.specs.Following.{IsFollowed, IsFollowable, IsLed, IsA
 use crate::board::{Board, Refused};
 use or_core::Core;
 use or_sched::Mark;
-
-// How many turns a block has, of which a mark is kept.
-const BLOCK: usize = 65536;
+use or_words::limits::BLOCK;
 
 /// Why a schedule is not followed to its end. `kept` is the number in the mark that was kept, and `found` that of the board.
 #[derive(Clone, Copy, Debug, PartialEq, Eq)]
@@ -34,9 +32,9 @@ impl Board {
     /// Errors: the first that refuses it, a turn, a mark, or, behind all of them, a core that has not stopped. The board is
     /// left after the turns before a turn that is refused, and after the turns of the mark's block.
     pub fn follow(&mut self, turns: &[u8], marks: &[Mark]) -> Result<(), TurnFault>
-        requires marks { (marks.now ≡ []) ⊎ (length marks.now ≡ length turns.now / 65536) }
+        requires marks { (marks.now ≡ []) ⊎ (length marks.now ≡ length turns.now / BLOCK) }
         ensures followed { (start : BoardModel) → IsBoard self.old.cores self.old.bus start
-            → IsFollowed 65536 start turns.now marks.now result self.new.cores self.new.bus }
+            → IsFollowed BLOCK start turns.now marks.now result self.new.cores self.new.bus }
         ensures exact { (start : BoardModel) → IsBoard self.old.cores self.old.bus start
             → MatchResult result (λ _. IsFollowable start turns.now marks.now) (λ _. IsFollowable start turns.now marks.now → ⊥) }
         ensures config { self.new.config ≡ self.old.config }

@@ -2,6 +2,7 @@
 ghost use Rattle.std.specs.Prelude.{◌≡◌, ◌≤◌, ◌<◌, ◌*◌, ◌+◌, ℕ, List, Some, None, length, take, drop, replicate, MatchResult, IfOk};
 ghost use Rattle.std.specs.List.{All, fold};
 ghost use Rattle.or_words.specs.Settings.{Fits, ram_bytes};
+ghost use Rattle.or_words.specs.declared.limits.TheConstants.{IMAGE_LIMIT, MOST_RAM, MOST_RAM_BYTES};
 ghost use Rattle.or_elf.specs.Fault.{elf_fault, IsInside};
 ghost use Rattle.or_elf.specs.Header.{segments as segments_in};
 ghost use Rattle.or_elf.specs.Placed.{placed, place_segment};
@@ -18,6 +19,7 @@ use or_bus::Bus;
 use or_core::Core;
 use or_elf::{ElfFault, Segment};
 use or_mem::Ram;
+use or_words::limits::MIB;
 use or_words::{Config, NoMemory};
 use std::alloc::Global;
 
@@ -49,7 +51,7 @@ fn bytes_of<'a>(image: &'a [u8], segment: &Segment) -> &'a [u8]
 #[tactic(auto, using(crate::proofs::Placing::placing))]
 fn place(ram: &mut Ram, image: &[u8], segment: &Segment)
     requires inside { IsInside (length image.now) (length ram.old.bytes) segment.now }
-    requires small { length ram.old.bytes ≤ 268435456 }
+    requires small { length ram.old.bytes ≤ MOST_RAM_BYTES }
     ensures bytes { ram.new.bytes ≡ place_segment image.now ram.old.bytes segment.now }
     ensures size { length ram.new.bytes ≡ length ram.old.bytes }
 {
@@ -62,7 +64,7 @@ fn place(ram: &mut Ram, image: &[u8], segment: &Segment)
 
 // Places all segments in order.
 fn place_all(ram: &mut Ram, image: &[u8], segments: &[Segment])
-    requires small { length ram.old.bytes ≤ 268435456 }
+    requires small { length ram.old.bytes ≤ MOST_RAM_BYTES }
     requires inside { All (IsInside (length image.now) (length ram.old.bytes)) segments.now }
     ensures bytes { ram.new.bytes ≡ fold (place_segment image.now) ram.old.bytes segments.now }
     ensures size { length ram.new.bytes ≡ length ram.old.bytes }
@@ -77,11 +79,11 @@ fn place_all(ram: &mut Ram, image: &[u8], segments: &[Segment])
 // RAM with the image placed in it.
 #[tactic(auto, unfolding(or_elf::specs::Placed::placed))]
 fn loaded(alloc: Global, mib: u32, image: &[u8], segments: &[Segment]) -> Result<Ram, NoMemory>
-    requires size { mib ≤ 256 }
+    requires size { mib ≤ MOST_RAM }
     requires all { segments.now ≡ segments_in image.now }
-    requires inside { All (IsInside (length image.now) (mib * 1048576)) segments.now }
-    ensures bytes { IfOk result (λ ram. ram.bytes ≡ placed image.now (mib * 1048576)) }
-    ensures size { IfOk result (λ ram. length ram.bytes ≡ mib * 1048576) }
+    requires inside { All (IsInside (length image.now) (mib * MIB)) segments.now }
+    ensures bytes { IfOk result (λ ram. ram.bytes ≡ placed image.now (mib * MIB)) }
+    ensures size { IfOk result (λ ram. length ram.bytes ≡ mib * MIB) }
 {
     let mut ram = Ram::open(alloc, mib)?;
     place_all(&mut ram, image, segments);
@@ -152,12 +154,12 @@ impl Board {
         input: Vec<u8>,
     ) -> Result<Board, OpenFault>
         requires fits { Fits config.now }
-        requires limit { length image.now ≤ 67108864 }
+        requires limit { length image.now ≤ IMAGE_LIMIT }
         ensures opened { MatchResult result
             (λ board. (elf_fault image.now (ram_bytes config.now) ≡ None) × IsBoard board.cores board.bus (start config.now image.now input.items) × (board.config ≡ config.now))
             (λ fault. FailsToOpen image.now (ram_bytes config.now) fault) }
     {
-        match or_elf::read(image, config.ram * 1_048_576) {
+        match or_elf::read(image, config.ram * MIB) {
             Ok(found) => match opened(alloc, config, image, &found.segments, input) {
                 Ok(board) => Ok(board),
                 Err(_) => Err(OpenFault::NoMemory),

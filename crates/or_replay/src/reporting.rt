@@ -10,6 +10,7 @@ ghost use Rattle.or_replay.specs.Report.{stop_text, slot_text, progress_line, fi
 
 use or_bus::{Bus, Counts};
 use or_core::{Core, Stop};
+use or_parts::registers::{EEAR0, EPCR0, ESR0, MACHI, MACLO, PICMR, PICSR, SR, TTCR, TTMR};
 use or_text::{append_decimal, append_digest, append_word};
 use or_words::NoMemory;
 use sha2::{Digest, Sha256};
@@ -63,10 +64,10 @@ fn saved(core: &Core) -> (u32, u32, u32, u32)
     ensures esr { result.3 ≡ core.now.esr }
 {
     (
-        core.special(17),
-        core.special(32),
-        core.special(48),
-        core.special(64),
+        core.special(SR),
+        core.special(EPCR0),
+        core.special(EEAR0),
+        core.special(ESR0),
     )
 }
 
@@ -75,7 +76,7 @@ fn accumulator(core: &Core) -> (u32, u32)
     ensures high { result.0 ≡ core.now.machi }
     ensures low { result.1 ≡ core.now.maclo }
 {
-    (core.special(10242), core.special(10241))
+    (core.special(MACHI), core.special(MACLO))
 }
 
 #[tactic(auto, unfolding(or_model::specs::SpecialAccess::special, or_parts::specs::Special::spr_route))]
@@ -83,7 +84,7 @@ fn timer(core: &Core) -> (u32, u32)
     ensures mode { result.0 ≡ core.now.ttmr }
     ensures count { result.1 ≡ core.now.ttcr }
 {
-    (core.special(20480), core.special(20481))
+    (core.special(TTMR), core.special(TTCR))
 }
 
 #[tactic(auto, unfolding(or_model::specs::SpecialAccess::special, or_parts::specs::Special::spr_route))]
@@ -91,7 +92,7 @@ fn interrupts(core: &Core) -> (u32, u32)
     ensures mask { result.0 ≡ core.now.picmr }
     ensures status { result.1 ≡ core.now.picsr }
 {
-    (core.special(18432), core.special(18434))
+    (core.special(PICMR), core.special(PICSR))
 }
 
 // A name with its blank, and a word.
