@@ -2,6 +2,7 @@
 use Rattle.std.specs.Prelude.{ℕ, List, [], ◌∷◌, Bool, true, false, ◌&&◌, ◌≤◌, ◌^◌, nat_le, if◌then◌else◌, Option, Some, None, codes}
 use Rattle.std.specs.Str.{bytes_eq}
 use Rattle.or_words.specs.declared.Config.{Config}
+use Rattle.or_words.specs.declared.limits.TheConstants.{MOST_CORES, MOST_BUDGET, MOST_RAM, MOST_STAY}
 use Rattle.or_command_line.specs.declared.RunOptions.{RunOptions}
 use Rattle.or_text.specs.Numerals.{decimal_of}
 
@@ -35,8 +36,8 @@ latch_of (word ∷ rest) = if bytes_eq word (codes "--pic") then latch_value res
 -- the settings are in their ranges
 abbrev pub config_fits : Config → Bool
 config_fits config =
-    (nat_le 1 config.cores && nat_le config.cores 8)
-    && ((nat_le 1 config.budget && nat_le config.budget 67108864) && (nat_le 1 config.ram && nat_le config.ram 256))
+    (nat_le 1 config.cores && nat_le config.cores MOST_CORES)
+    && ((nat_le 1 config.budget && nat_le config.budget MOST_BUDGET) && (nat_le 1 config.ram && nat_le config.ram MOST_RAM))
 
 abbrev pub config_where : Config → List (List ℕ) → Option (Config × List (List ℕ))
 config_where config rest = if config_fits config then Some (config, rest) else None
@@ -63,7 +64,7 @@ config_of words = config_with_cores (option_of (codes "--cores") 1 words)
 
 -- the most turns of a stay at the bus: 1 to 4096
 abbrev pub stay_fits : ℕ → Bool
-stay_fits stay = nat_le 1 stay && nat_le stay 4096
+stay_fits stay = nat_le 1 stay && nat_le stay MOST_STAY
 
 abbrev pub stay_where : Option (ℕ × List (List ℕ)) → Option (ℕ × List (List ℕ))
 stay_where None = None
@@ -75,7 +76,7 @@ stay_of words = stay_where (option_of (codes "--stay") 256 words)
 
 pub record FitsStay (stay : ℕ) : Type 0 where
   pub some : 1 ≤ stay
-  pub limit : stay ≤ 4096
+  pub limit : stay ≤ MOST_STAY
 
 abbrev pub options_with_status : Config → ℕ → Bool × List (List ℕ) → Option RunOptions
 options_with_status config stay (status, []) = Some (record { config = config; stay = stay; status = status })

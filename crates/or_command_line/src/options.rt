@@ -7,6 +7,7 @@ ghost use Rattle.or_command_line.specs.Settings.{option_of, flag_of, latch_of, c
 use crate::RunOptions;
 use or_text::numerals::read_decimal;
 use or_words::Config;
+use or_words::limits::{MOST_BUDGET, MOST_CORES, MOST_RAM, MOST_STAY};
 
 /// The most turns of a stay at the bus where no option gives them.
 const DEFAULT_STAY: u32 = 256;
@@ -70,9 +71,9 @@ fn fits(config: &Config) -> bool
     ensures test { result ≡ config_fits config.now }
     ensures fits { IsTrue result → Fits config.now }
 {
-    (1 <= config.cores && config.cores <= 8)
-        && ((1 <= config.budget && config.budget <= 67_108_864)
-            && (1 <= config.ram && config.ram <= 256))
+    (1 <= config.cores && config.cores <= MOST_CORES)
+        && ((1 <= config.budget && config.budget <= MOST_BUDGET)
+            && (1 <= config.ram && config.ram <= MOST_RAM))
 }
 
 // The settings that the options give; the words behind them.
@@ -111,7 +112,7 @@ fn is_stay(stay: u32) -> bool
     ensures test { result ≡ stay_fits stay }
     ensures fits { IsTrue result → FitsStay stay }
 {
-    1 <= stay && stay <= 4096
+    1 <= stay && stay <= MOST_STAY
 }
 
 // The most turns of a stay that the option gives; the words behind it.
