@@ -179,8 +179,10 @@ impl Core {
         }
     }
 
-    // The operation on registers that does the same.
+    // The operation on registers that does the same. Its arms stand here once more and call nothing
+    // large, so that `execute` stays small enough to be inlined into the quiet steps.
     #[inline(always)]
+    #[tactic(auto, unfolding(or_model::specs::Execute::put_arithmetic))]
     fn arithmetic_immediate(
         &mut self,
         kind: ImmediateKind,
@@ -194,10 +196,13 @@ impl Core {
         ensures counts { SameCounts self.old self.new }
     {
         match kind {
-            ImmediateKind::Add => self.arithmetic(ArithmeticKind::Add, d, a, b),
-            ImmediateKind::AddWithCarry => self.arithmetic(ArithmeticKind::AddWithCarry, d, a, b),
-            ImmediateKind::Xor => self.arithmetic(ArithmeticKind::Xor, d, a, b),
-            ImmediateKind::Multiply => self.arithmetic(ArithmeticKind::Multiply, d, a, b),
+            ImmediateKind::Add => self.put_sum(d, a, b, false),
+            ImmediateKind::AddWithCarry => self.put_sum(d, a, b, self.carry()),
+            ImmediateKind::Xor => {
+                self.put(d, a ^ b);
+                Ok(())
+            }
+            ImmediateKind::Multiply => self.put_product(d, a, b),
         }
     }
 

@@ -145,7 +145,7 @@ impl Core {
         self.put_with_overflow(d, value, ov)
     }
 
-    #[inline]
+    #[inline(never)]
     #[tactic(auto, unfolding(or_model::specs::Execute::put_quotient))]
     pub(crate) fn put_quotient(&mut self, d: u32, a: u32, b: u32) -> Result<(), Cause>
         requires { d < 32 }
@@ -158,7 +158,7 @@ impl Core {
     }
 
     // The unsigned quotient, with CY for a division by zero.
-    #[inline]
+    #[inline(never)]
     #[tactic(auto, unfolding(or_model::specs::Execute::put_unsigned_quotient))]
     pub(crate) fn put_unsigned_quotient(&mut self, d: u32, a: u32, b: u32)
         requires { d < 32 }
@@ -170,7 +170,7 @@ impl Core {
     }
 
     // The product modulo 2^32, with CY where the unsigned product does not fit.
-    #[inline]
+    #[inline(never)]
     #[tactic(auto, unfolding(or_model::specs::Execute::put_unsigned_product))]
     pub(crate) fn put_unsigned_product(&mut self, d: u32, a: u32, b: u32)
         requires { d < 32 }
@@ -264,6 +264,7 @@ impl Core {
     }
 
     // The accumulator after an operation on it.
+    #[inline(never)]
     #[tactic(auto, unfolding(or_model::specs::Execute::put_accumulator))]
     pub(crate) fn accumulate(&mut self, kind: MacKind, a: u32, b: u32)
         ensures state { self.new ≡ put_accumulator self.old kind a b }
@@ -276,6 +277,7 @@ impl Core {
     }
 
     // The accumulator's low half goes to register d, and both halves are cleared.
+    #[inline(never)]
     #[tactic(auto, unfolding(or_model::specs::Execute::accumulator_read))]
     pub(crate) fn take_accumulator(&mut self, d: u32)
         requires { d < 32 }
@@ -298,6 +300,7 @@ impl Core {
     }
 
     // A page's address, by pages from that of pc.
+    #[inline(never)]
     #[tactic(auto, using(crate::proofs::Pages::page_bytes), unfolding(or_model::specs::Execute::page_address))]
     pub(crate) fn page_address(&self, n: i32) -> u32
         requires { IsSigned 20 n }

@@ -90,7 +90,7 @@ impl Core {
     }
 
     // What an instruction comes to that asks nothing of the bus, or a word that is no instruction.
-    #[inline(always)]
+    #[inline(never)]
     fn attempt(&mut self, insn: Option<Insn>) -> Result<(), Cause>
         requires { ForSome insn Fits }
         ensures outcome { MatchResult result (λ _. outcome self.old insn ≡ Ok self.new) (λ e. outcome self.old insn ≡ Err e) }
