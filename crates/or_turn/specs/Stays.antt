@@ -1,12 +1,19 @@
 -- What a stay at the bus does.
-use Rattle.std.specs.Prelude.{◌≡◌, ℕ, ◌<◌, ◌≤◌, Bool, List, ◌++◌, replicate, None}
+use Rattle.std.specs.Prelude.{◌≡◌, ℕ, ◌<◌, ◌≤◌, Bool, List, ◌++◌, replicate, Option, Some, None}
 use Rattle.or_words.specs.Settings.{Fits}
 use Rattle.or_model.specs.Core.{Core}
-use Rattle.or_model.specs.Turn.{turn_begun}
+use Rattle.or_model.specs.World.{World}
+use Rattle.or_model.specs.DataAccess.{State}
+use Rattle.or_model.specs.Turn.{turn_begun, turn_ended, turn}
 use Rattle.or_turn.specs.declared.view.Transfer.{Transfer}
 use Rattle.or_turn.specs.declared.view.Settings.{Settings}
 use Rattle.or_turn.specs.Schedules.{board_of, IsDefined, core_at}
 use Rattle.or_turn.specs.Rule.{SlotHolds}
+
+-- a turn of a core, or the rest of one whose first half has been made, with the answer of that
+abbrev pub turn_from : Option Bool → Core → World → State
+turn_from None core world = turn core world
+turn_from (Some follows) core world = turn_ended core world follows
 
 -- core c, between two turns, has the bus: what is out of the slot is what the schedule gives, and so is the core
 pub record HasBus (st : Settings) (turns : List ℕ) (c : ℕ) (core : Core) (transfer : Transfer) : Type 0 where

@@ -4,9 +4,9 @@ ghost use Rattle.std.specs.Prelude.{◌≡◌, None, IsTrue};
 use or_bus::{Access, Bus};
 use or_core::Core;
 
-/// A stay ends behind a turn with more private steps than this: those of its next turn are made beside the turns of others,
+/// A stay ends behind a turn with more steps than this: the private steps of its next turn are made beside the turns of others,
 /// and not while all wait for the bus.
-const FEW_STEPS: u32 = 24;
+const FEW_STEPS: u32 = 25;
 
 /// So many turns apart are the traces at most that are compared.
 const FARTHEST: u32 = 16;
@@ -23,8 +23,9 @@ struct Trace {
 /// What is known of the last turns of a unit.
 #[derive(Drop)]
 pub(crate) struct Pace {
-    /// How many private steps the last turn has.
-    private: u32,
+    /// How many steps the core has made, and how many of them in its last turn.
+    steps: u32,
+    length: u32,
     /// Whether the core waits for another: it does the same again and again, and nothing changes.
     spins: bool,
     /// The trace that others are compared with, how many turns have been made since, and after how many it is replaced.
@@ -36,7 +37,8 @@ pub(crate) struct Pace {
 impl Pace {
     pub(crate) fn new() -> Pace {
         Pace {
-            private: 0,
+            steps: 0,
+            length: 0,
             spins: false,
             seen: None,
             since: 0,
@@ -44,13 +46,10 @@ impl Pace {
         }
     }
 
-    /// A turn has begun, with so many private steps.
-    pub(crate) fn begun(&mut self, private: u32) {
-        self.private = private;
-    }
-
-    /// It has ended. The distances between the traces grow, so that a loop of several accesses is found too.
+    /// A turn of the core has ended. The distances between the traces grow, so that a loop of several accesses is found too.
     pub(crate) fn ended(&mut self, core: &Core, bus: &Bus) {
+        self.length = core.steps().wrapping_sub(self.steps);
+        self.steps = core.steps();
         let trace = Trace {
             pc: core.place().pc,
             last: bus.last(),
@@ -77,6 +76,6 @@ impl Pace {
     pub(crate) fn goes_on(&self, core: &Core) -> bool
         ensures { IsTrue result → core.now.stop ≡ None }
     {
-        core.stop().is_none() && self.private <= FEW_STEPS && !self.spins
+        core.stop().is_none() && self.length <= FEW_STEPS && !self.spins
     }
 }

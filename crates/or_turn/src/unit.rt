@@ -62,9 +62,6 @@ impl Unit {
         ensures begun { (c : ℕ) → (view self.old).cores ≡ c ∷ [] → (begun self.new ≡ Some (turn_begun (core_of (view self.old) c)).follows) × (cores self.new ≡ begun_core (view self.old) c ∷ []) }
     {
         let core = &mut self.cores.as_mut_slice()[0];
-        let before = core.steps();
-        let follows = core.begin_turn();
-        self.pace.begun(core.steps().wrapping_sub(before));
-        self.begun = Some(follows);
+        self.begun = Some(core.begin_turn());
     }
 }

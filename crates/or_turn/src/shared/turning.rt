@@ -1,13 +1,12 @@
 //! A stay at the bus.
-ghost use Rattle.std.specs.Prelude.{◌≡◌, ℕ, List, Bool, ◌+◌, ◌%◌, ◌<◌, ◌≤◌, [], ◌∷◌, ◌++◌, Some, None, IsTrue, vec_capacity, vec_len};
+ghost use Rattle.std.specs.Prelude.{◌≡◌, ◌≢◌, ℕ, List, Bool, false, ◌+◌, ◌%◌, ◌<◌, ◌≤◌, [], ◌∷◌, ◌++◌, Some, None, IsTrue, vec_capacity, vec_len};
 ghost use Rattle.or_model.specs.World.{World};
-ghost use Rattle.or_model.specs.Turn.{turn_ended};
 ghost use Rattle.or_bus.specs.Represents.{Represents};
 ghost use Rattle.or_core.specs.Follows.{IsState, KeepsBus};
 ghost use Rattle.or_replay.specs.Marks.{with_mark};
 ghost use Rattle.or_turn.specs.declared.view.Settings.{Settings};
 ghost use Rattle.or_turn.specs.Shown.{core_of, Turned};
-ghost use Rattle.or_turn.specs.Stays.{HasBusBegun, MadeTurns};
+ghost use Rattle.or_turn.specs.Stays.{turn_from, HasBusBegun, MadeTurns};
 ghost use Rattle.or_turn.specs.Units.{view, begun, cores, IsOf};
 
 use super::Shared;
@@ -38,19 +37,22 @@ fn mark_block(transfer: &mut Transfer)
     }
 }
 
-// Makes the rest of a turn on the bus, and writes it into the schedule.
-fn end_turn(core: &mut Core, transfer: &mut Transfer, follows: bool)
-    requires running { IsTrue follows → core.old.stop ≡ None }
+// Makes a turn on the bus, or the rest of one that has begun, and writes it into the schedule.
+fn make_turn(core: &mut Core, transfer: &mut Transfer, begun: Option<bool>)
+    requires running { begun ≢ Some false → core.old.stop ≡ None }
     requires known { (core.old.number < transfer.old.bus.value.cores) × (core.old.number < 256) }
     requires room { (0 < transfer.old.bus.value.spare) × (vec_len transfer.old.schedule < vec_capacity transfer.old.schedule) × ((vec_len transfer.old.schedule + 1) % 65536 ≡ 0 → vec_len transfer.old.marks < vec_capacity transfer.old.marks) }
-    ensures state { (world : World) → Represents transfer.old.bus.value world → IsState (turn_ended core.old world follows) core.new transfer.new.bus.value }
+    ensures state { (world : World) → Represents transfer.old.bus.value world → IsState (turn_from begun core.old world) core.new transfer.new.bus.value }
     ensures bus { KeepsBus transfer.old.bus.value transfer.new.bus.value }
     ensures schedule { transfer.new.schedule.items ≡ transfer.old.schedule.items ++ core.old.number ∷ [] }
     ensures marks { (world : World) → Represents transfer.new.bus.value world → transfer.new.marks.items ≡ with_mark (vec_len transfer.old.schedule + 1) world transfer.old.marks.items }
     ensures kept { (vec_capacity transfer.new.schedule ≡ vec_capacity transfer.old.schedule) × (vec_capacity transfer.new.marks ≡ vec_capacity transfer.old.marks) }
 {
     transfer.schedule.push_reserved(core.number() as u8);
-    core.end_turn(&mut *transfer.bus, follows);
+    match begun {
+        Some(follows) => core.end_turn(&mut *transfer.bus, follows),
+        None => core.turn(&mut *transfer.bus),
+    }
     mark_block(transfer);
 }
 
@@ -61,13 +63,10 @@ fn stay(core: &mut Core, transfer: &mut Transfer, follows: bool, pace: &mut Pace
     ensures { (st : Settings) (turns : List ℕ) (c : ℕ) → HasBusBegun st turns c core.old follows transfer.old → MadeTurns st turns c 1 most core.new transfer.new }
 {
     let mut left = most - 1;
-    end_turn(core, transfer, follows);
+    make_turn(core, transfer, Some(follows));
     pace.ended(core, &transfer.bus);
     while left > 0 && pace.goes_on(core) {
-        let before = core.steps();
-        let follows = core.begin_turn();
-        pace.begun(core.steps().wrapping_sub(before));
-        end_turn(core, transfer, follows);
+        make_turn(core, transfer, None);
         pace.ended(core, &transfer.bus);
         left -= 1;
     }
