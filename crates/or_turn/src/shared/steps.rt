@@ -1,13 +1,12 @@
 //! Single steps on the table.
-ghost use Rattle.std.specs.Prelude.{◌≡◌, ℕ, ◌+◌, ◌<◌, ◌≤◌, [], ◌∷◌, ◌++◌, replicate, None, Some, MatchBool};
-ghost use Rattle.or_turn.specs.declared.view.Stage.TheVariants.{Idle, Waits, Holds};
-ghost use Rattle.or_turn.specs.declared.view.Transfer.{Transfer as TransferModel};
-ghost use Rattle.or_turn.specs.Schedules.{board_of, IsDefined, core_at};
-ghost use Rattle.or_turn.specs.Rule.{SlotHolds, longer};
-ghost use Rattle.or_turn.specs.Told.{TakesBus, waiting_view, done_view, enrolled_view, closed_view, next_view, both_view, halves, JoinConfirmed};
+ghost use Rattle.std.specs.Prelude.{◌≡◌, ℕ, ◌<◌, [], ◌∷◌, ◌++◌, Some, MatchBool};
+ghost use Rattle.or_turn.specs.declared.view.Stage.TheVariants.{Idle, Waits};
+ghost use Rattle.or_turn.specs.Schedules.{board_of, core_at};
+ghost use Rattle.or_turn.specs.Rule.{longer};
+ghost use Rattle.or_turn.specs.Told.{TakesBus, waiting_view, enrolled_view, closed_view, next_view, both_view, halves, JoinConfirmed};
 
-use super::waiters::{StayEnd, Waiters};
-use crate::plays::{Confirm, Divide, Draw, Enrol, Finish, Look, TurnRule, Unite};
+use super::waiters::Waiters;
+use crate::plays::{Confirm, Divide, Draw, Enrol, Look, TurnRule, Unite};
 use crate::unit::Place;
 use crate::view::{OpenedWith, Transfer, View};
 use atomic_table::Shared as Steps;
@@ -17,7 +16,7 @@ use std::sync::Wait;
 // The words: the next ticket, the ticket that is served, and how many cores are enrolled.
 const NEXT: usize = 0;
 
-const SERVING: usize = 1;
+pub(crate) const SERVING: usize = 1;
 
 const ENROLLED: usize = 2;
 
@@ -119,18 +118,6 @@ pub(crate) fn wait_for_bus<R: Wait>(
         waiters.sleep(rt, core);
     }
     unreachable!()
-}
-
-// Ends a stay: the next ticket is served, and the slot goes home with the turns that were made.
-pub(crate) fn finish(top: &Top, waiters: &Waiters, seat: &mut Place, end: &StayEnd)
-    requires table { (seat.old.table_id ≡ top.now.table_id) × (top.now.table_id.words ≡ 3) × (top.now.table_id.slots ≡ 1) }
-    requires holds { (c : ℕ) × (turns : ℕ) × (transfer : TransferModel) × (seat.old.me.0.stage ≡ Holds) × (seat.old.me.0.cores ≡ c ∷ []) × (seat.old.me.1 ≡ (0, Some transfer) ∷ []) × (1 ≤ turns) × IsDefined seat.old.me.0.settings (seat.old.me.0.seen ++ replicate turns c) × SlotHolds seat.old.me.0.settings (seat.old.me.0.seen ++ replicate turns c) transfer }
-    ensures same { (seat.new.table_id ≡ seat.old.table_id) × (seat.new.id ≡ seat.old.id) }
-    ensures view { (transfer : TransferModel) → seat.old.me.1 ≡ (0, Some transfer) ∷ [] → seat.new.me ≡ (done_view seat.old.me.0 transfer.schedule.items, []) }
-{
-    let chosen = waiters.choose(end);
-    top.fetch_add::<Finish>(seat, SERVING, 1);
-    waiters.hand_over(chosen);
 }
 
 // Gives the next core to the seat with the opening mark.

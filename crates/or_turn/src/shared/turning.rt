@@ -10,9 +10,10 @@ ghost use Rattle.or_turn.specs.Stays.{turn_from, HasBusBegun, MadeTurns};
 ghost use Rattle.or_turn.specs.Units.{view, begun, cores, IsOf};
 
 use super::Shared;
-use super::steps::{finish, wait_for_bus};
+use super::steps::{SERVING, wait_for_bus};
 use super::waiters::StayEnd;
 use crate::pace::Pace;
+use crate::plays::Finish;
 use crate::unit::Unit;
 use crate::view::Transfer;
 use or_core::Core;
@@ -100,7 +101,9 @@ impl Shared {
             spins: unit.pace.spins(),
         };
         top.exchange(&mut unit.seat, 0, Some(transfer));
-        finish(top, &self.waiters, &mut unit.seat, &end);
+        let chosen = self.waiters.choose(&end);
+        top.fetch_add::<Finish>(&mut unit.seat, SERVING, 1);
+        self.waiters.hand_over(chosen);
         unit.begun = None;
     }
 }

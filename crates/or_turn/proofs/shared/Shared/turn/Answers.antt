@@ -5,11 +5,12 @@ use Rattle.or_model.specs.Core.{Core}
 use Rattle.or_turn.specs.declared.view.Transfer.{Transfer}
 use Rattle.or_turn.specs.declared.view.View.{View}
 use Rattle.or_turn.specs.Schedules.{IsDefined}
-use Rattle.or_turn.specs.Rule.{SlotHolds}
+use Rattle.or_turn.specs.Rule.{SlotHolds, settings_of}
 use Rattle.or_turn.specs.Told.{TakesBus, SeatState, holding_view, done_view}
 use Rattle.or_turn.specs.Shown.{core_of, only_of, begun_core, cores_shown, HasBegun, Turned}
 use Rattle.or_turn.specs.Stays.{HasBusBegun, MadeTurns}
-use Rattle.or_turn.proofs.shared.Shared.turn.Goals.{In-Some, After-wait_for_bus, After-index-as_mut_slice-0, After-stay, After-exchange-2, After-finish}
+use Rattle.or_turn.proofs.shared.Shared.turn.Goals.{In-Some, After-wait_for_bus, After-index-as_mut_slice-0, After-stay, After-exchange-2, After-fetch_add}
+use Rattle.or_turn.proofs.Turning.{finishes}
 use Rattle.or_turn.proofs.Turn as turn
 use Rattle.or_turn.proofs.shared.Shared.turn.Goals as goal
 
@@ -65,28 +66,31 @@ carried : (g : _) (c : After-exchange-2 g) (tk : TakesBus c.args.unit.now.seat.m
 carried g c tk = let a = c.exchange.ensures.3 in let b = c.exchange-2.ensures.3 in
     b ∙ ap (λ (m : SeatState). let r : SeatState = (m.0, (0, Some c.stay.new.transfer) ∷ rest m.1) in r) (a ∙ ap (λ (m : SeatState). let r : SeatState = (m.0, (0, None) ∷ rest m.1) in r) (λ i. (tk.view i, tk.slots i)))
 
-pub finish-requires-clause-holds : goal.finish-requires-clause-holds
-finish-requires-clause-holds g c = let at = goal.at.finish-requires-clause-holds g c in let v : View = c.args.unit.now.seat.me.0 in let h = has g at.In-Some in let tk = took g at.After-wait_for_bus in
+pub fetch_add-requires : goal.fetch_add-requires
+fetch_add-requires g c = let at = goal.at.fetch_add-requires g c in let v : View = c.args.unit.now.seat.me.0 in let h = has g at.In-Some in let tk = took g at.After-wait_for_bus in
     let e = carried g at.After-exchange-2 tk in let m = stayed g at.After-stay in let same : c.exchange-2.new.seat.me.0 ≡ holding_view v tk.schedule = ap (λ (x : SeatState). x.0) e in (
-      only_of v,
-      m.made,
-      c.stay.new.transfer,
-      ap (λ (x : View). x.stage) same,
-      ap (λ (x : View). x.cores) same ∙ h.0,
-      ap (λ (x : SeatState). x.1) e,
-      m.some,
-      subst (λ (x : View). IsDefined (x.settings) (x.seen ++ replicate m.made (only_of v))) (sym same) m.has.defined,
-      subst (λ (x : View). SlotHolds (x.settings) (x.seen ++ replicate m.made (only_of v)) c.stay.new.transfer) (sym same) m.has.holds,
+      search rules,
+      search rules,
+      finishes (settings_of c.args.self.now.table.shared.key) _ _ c.exchange-2.new.seat.me
+          (only_of v)
+          m.made
+          c.stay.new.transfer
+          (ap (λ (x : View). x.stage) same)
+          (ap (λ (x : View). x.cores) same ∙ h.0)
+          (ap (λ (x : SeatState). x.1) e)
+          m.some
+          (subst (λ (x : View). IsDefined (x.settings) (x.seen ++ replicate m.made (only_of v))) (sym same) m.has.defined)
+          (subst (λ (x : View). SlotHolds (x.settings) (x.seen ++ replicate m.made (only_of v)) c.stay.new.transfer) (sym same) m.has.holds),
     )
 
-after_is : (g : _) (c : After-finish g) (tk : TakesBus c.args.unit.now.seat.me.0 c.wait_for_bus.new.seat.me)
-    → c.finish.new.seat.me ≡ (done_view (holding_view c.args.unit.now.seat.me.0 tk.schedule) c.stay.new.transfer.schedule.items, [])
-after_is g c tk = let e = carried g (goal.at.After-finish g c).After-exchange-2 tk in
-    c.finish.ensures.view c.stay.new.transfer (ap (λ (m : SeatState). m.1) e) ∙ ap (λ (m : SeatState). let r : SeatState = (done_view m.0 c.stay.new.transfer.schedule.items, []) in r) e
+after_is : (g : _) (c : After-fetch_add g) (tk : TakesBus c.args.unit.now.seat.me.0 c.wait_for_bus.new.seat.me)
+    → c.fetch_add.new.seat.me ≡ (done_view (holding_view c.args.unit.now.seat.me.0 tk.schedule) c.stay.new.transfer.schedule.items, [])
+after_is g c tk = let e = carried g (goal.at.After-fetch_add g c).After-exchange-2 tk in let told = c.fetch_add.ensures.2 in let gives = told.1 c.stay.new.transfer (ap (λ (m : SeatState). m.1) e) in
+    (λ i. (gives i, told.0 i)) ∙ ap (λ (m : SeatState). let r : SeatState = (done_view m.0 c.stay.new.transfer.schedule.items, []) in r) e
 
 pub invariant_of-unit : goal.invariant_of-unit
 invariant_of-unit g c = let at = goal.at.invariant_of-unit g c in let v : View = c.args.unit.now.seat.me.0 in let h = has g at.In-Some in let tk = took g at.After-wait_for_bus in
-    let e = after_is g at.After-finish tk in let m = stayed g at.After-stay in let w : View = turn.after v _ h _ tk _ _ _ m in
+    let e = after_is g at.After-fetch_add tk in let m = stayed g at.After-stay in let w : View = turn.after v _ h _ tk _ _ _ m in
     let core = turn.core_after_stay v _ h _ tk _ _ _ m in record {
       bare = ap (λ (x : SeatState). x.1) e;
       idle = ap (λ (x : SeatState). x.0.stage) e;
@@ -98,5 +102,5 @@ invariant_of-unit g c = let at = goal.at.invariant_of-unit g c in let v : View =
 
 pub returns-clause-turned : goal.returns-clause-turned
 returns-clause-turned g c = λ d one. let at = goal.at.returns-clause-turned g c in let v : View = c.args.unit.now.seat.me.0 in let h = has g at.In-Some in let tk = took g at.After-wait_for_bus in
-    let e = after_is g at.After-finish tk in let m = stayed g at.After-stay in let same : only_of v ≡ d = ap (λ (l : List ℕ). get_or l 0 0) one in
+    let e = after_is g at.After-fetch_add tk in let m = stayed g at.After-stay in let same : only_of v ≡ d = ap (λ (l : List ℕ). get_or l 0 0) one in
     subst (λ (p : View × ℕ). Turned v p.0 p.1 c.args.most) (λ i. (sym (ap (λ (x : SeatState). x.0) e) i, same i)) (turn.turned v _ h _ tk _ _ _ m c.args.unit.now.idle)
