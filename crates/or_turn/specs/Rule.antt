@@ -4,6 +4,7 @@ use mathlib.Core.Option.{some, none}
 use lib.ListN.{get_elem?}
 use Rattle.atomic_table.specs.Table.{State}
 use Rattle.or_words.specs.Settings.{Fits}
+use Rattle.or_words.specs.declared.limits.TheConstants.{BLOCK}
 use Rattle.or_bus.specs.Represents.{Represents}
 use Rattle.or_sched.specs.Runs.{expand}
 use Rattle.or_replay.specs.Marks.{marks}
@@ -45,7 +46,7 @@ pub record SlotHolds (st : Settings) (turns : List ℕ) (transfer : Transfer) : 
   pub marks : transfer.marks.items ≡ marks (first_board st) turns
   pub console_room : most_turns st ≤ length turns + transfer.bus.value.spare
   pub schedule_room : most_turns st ≤ vec_capacity transfer.schedule
-  pub marks_room : most_turns st / 65536 ≤ vec_capacity transfer.marks
+  pub marks_room : most_turns st / BLOCK ≤ vec_capacity transfer.marks
 
 -- A stay is the time from a unit's taking the bus until it gives it back: a core, and how many turns it made. Each stay has
 -- at least one turn, and the schedule is their turns, one stay behind the other.

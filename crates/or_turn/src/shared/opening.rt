@@ -1,6 +1,7 @@
 //! The opening.
 ghost use Rattle.std.specs.Prelude.{◌≡◌, ℕ, ◌+◌, ◌*◌, ◌/◌, ◌<◌, ◌≤◌, [], ◌∷◌, length, None, Some, IfOk, MatchResult, slice_index_or, vec_len, vec_capacity};
 ghost use Rattle.or_words.specs.Settings.{Fits, ram_bytes};
+ghost use Rattle.or_words.specs.declared.limits.TheConstants.{IMAGE_LIMIT};
 ghost use Rattle.or_elf.specs.Fault.{elf_fault};
 ghost use Rattle.or_replay.specs.Board.{IsBoard};
 ghost use Rattle.or_replay.specs.Opening.{FailsToOpen};
@@ -20,6 +21,7 @@ use or_bus::Bus;
 use or_core::Core;
 use or_replay::{Board, OpenFault};
 use or_shown::Shown;
+use or_words::limits::BLOCK;
 use or_words::{Config, NoMemory};
 use std::alloc::Global;
 
@@ -55,13 +57,13 @@ fn first_transfer(alloc: Global, config: &Config, bus: Bus) -> Result<Transfer, 
     requires fits { Fits config.now }
     ensures bus { IfOk result (λ transfer. transfer.bus.value ≡ bus) }
     ensures none { IfOk result (λ transfer. (transfer.schedule.items ≡ []) × (transfer.marks.items ≡ [])) }
-    ensures room { IfOk result (λ transfer. (config.now.cores * config.now.budget ≤ vec_capacity transfer.schedule) × (config.now.cores * config.now.budget / 65536 ≤ vec_capacity transfer.marks)) }
+    ensures room { IfOk result (λ transfer. (config.now.cores * config.now.budget ≤ vec_capacity transfer.schedule) × (config.now.cores * config.now.budget / BLOCK ≤ vec_capacity transfer.marks)) }
 {
     let turns = config.cores as usize * config.budget as usize;
     let Ok(schedule) = Vec::with_capacity(alloc, turns) else {
         return Err(NoMemory);
     };
-    let Ok(marks) = Vec::with_capacity(alloc, turns / 65536) else {
+    let Ok(marks) = Vec::with_capacity(alloc, turns / BLOCK) else {
         return Err(NoMemory);
     };
     let Ok(bus) = Box::new(alloc, bus) else {
@@ -110,7 +112,7 @@ impl Shared {
         input: Vec<u8>,
     ) -> Result<(Shared, Vec<Unit>), OpenFault>
         requires fits { Fits config.now }
-        requires limit { length image.now ≤ 67108864 }
+        requires limit { length image.now ≤ IMAGE_LIMIT }
         ensures opened { MatchResult result
             (λ r. (elf_fault image.now (ram_bytes config.now) ≡ None) × AreOpened (record { config = config.now; image = image.now; input = input.items }) r.0 r.1)
             (λ fault. FailsToOpen image.now (ram_bytes config.now) fault) }

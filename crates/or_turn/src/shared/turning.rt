@@ -18,14 +18,12 @@ use crate::unit::Unit;
 use crate::view::Transfer;
 use or_core::Core;
 use or_sched::Mark;
+use or_words::limits::BLOCK;
 use std::sync::Wait;
-
-/// After so many turns the schedule has a mark.
-const BLOCK: usize = 65536;
 
 // Adds the mark of a block that has ended.
 fn mark_block(transfer: &mut Transfer)
-    requires room { vec_len transfer.old.schedule % 65536 ≡ 0 → vec_len transfer.old.marks < vec_capacity transfer.old.marks }
+    requires room { vec_len transfer.old.schedule % BLOCK ≡ 0 → vec_len transfer.old.marks < vec_capacity transfer.old.marks }
     ensures marks { (world : World) → Represents transfer.old.bus.value world → transfer.new.marks.items ≡ with_mark (vec_len transfer.old.schedule) world transfer.old.marks.items }
     ensures same { (transfer.new.bus.value ≡ transfer.old.bus.value) × (transfer.new.schedule ≡ transfer.old.schedule) }
     ensures kept { vec_capacity transfer.new.marks ≡ vec_capacity transfer.old.marks }
@@ -42,7 +40,7 @@ fn mark_block(transfer: &mut Transfer)
 fn make_turn(core: &mut Core, transfer: &mut Transfer, begun: Option<bool>)
     requires running { begun ≢ Some false → core.old.stop ≡ None }
     requires known { (core.old.number < transfer.old.bus.value.cores) × (core.old.number < 256) }
-    requires room { (0 < transfer.old.bus.value.spare) × (vec_len transfer.old.schedule < vec_capacity transfer.old.schedule) × ((vec_len transfer.old.schedule + 1) % 65536 ≡ 0 → vec_len transfer.old.marks < vec_capacity transfer.old.marks) }
+    requires room { (0 < transfer.old.bus.value.spare) × (vec_len transfer.old.schedule < vec_capacity transfer.old.schedule) × ((vec_len transfer.old.schedule + 1) % BLOCK ≡ 0 → vec_len transfer.old.marks < vec_capacity transfer.old.marks) }
     ensures state { (world : World) → Represents transfer.old.bus.value world → IsState (turn_from begun core.old world) core.new transfer.new.bus.value }
     ensures bus { KeepsBus transfer.old.bus.value transfer.new.bus.value }
     ensures schedule { transfer.new.schedule.items ≡ transfer.old.schedule.items ++ core.old.number ∷ [] }
