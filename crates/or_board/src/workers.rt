@@ -1,6 +1,7 @@
 //! One worker for each core.
 ghost use Rattle.std.specs.Prelude.{◌≡◌, ℕ, ◌<◌, ◌≤◌, length, None, IfOk, MatchResult, slice_index_or, vec_len};
 ghost use Rattle.or_words.specs.Settings.{Fits, ram_bytes};
+ghost use Rattle.or_words.specs.declared.limits.TheConstants.{IMAGE_LIMIT};
 ghost use Rattle.or_elf.specs.Fault.{elf_fault};
 ghost use Rattle.or_sched.specs.Schedule.{IsSchedule, AreMarks};
 ghost use Rattle.or_replay.specs.Start.{start};
@@ -145,7 +146,7 @@ pub fn run<R: Threads + Wait + Sync, G: Gate + Sync>(
 ) -> Result<Closed, OpenFault>
     requires stay { 1 ≤ stay }
     requires fits { Fits config.now }
-    requires limit { length image.now ≤ 67108864 }
+    requires limit { length image.now ≤ IMAGE_LIMIT }
     ensures run { MatchResult result
         (λ closed. (elf_fault image.now (ram_bytes config.now) ≡ None) × IsThreadedRun (start config.now image.now input.items) closed)
         (λ fault. FailsToOpen image.now (ram_bytes config.now) fault) }
