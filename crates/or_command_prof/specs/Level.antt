@@ -1,5 +1,6 @@
 -- A profile that has as many items of each core as the core has made steps.
 use Rattle.std.specs.Prelude.{◌≡◌, ℕ, ◌≤◌, List, Some, length, slice_get}
+use Rattle.or_words.specs.declared.limits.TheConstants.{MOST_BUDGET}
 use Rattle.or_model.specs.Core.{Core}
 use Rattle.or_model.specs.Counts.{IsWithinBudget}
 use Rattle.or_model.specs.Turn.{Board}
@@ -11,7 +12,7 @@ use Rattle.or_prof.specs.Profile.{Profiled, steps_of}
 pub record IsAt (made : ℕ) (core : Core) : Type 0 where
   pub steps : core.steps ≡ made
   pub within : IsWithinBudget core
-  pub few : core.budget ≤ 67108864
+  pub few : core.budget ≤ MOST_BUDGET
 
 pub record IsLevel (profile : Profiled) (cores : List Core) (bus : BusState) : Type 0 where
   pub now : Board
