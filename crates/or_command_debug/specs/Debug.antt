@@ -7,6 +7,7 @@ use Rattle.or_command.specs.Lines.{script_line}
 use Rattle.or_command.specs.Loads.{Load}
 use Rattle.or_command.specs.Writes.{File}
 use Rattle.or_command.specs.Ends.{FailedCheck}
+use Rattle.or_words.specs.declared.limits.TheConstants.{SCRIPT_LIMIT}
 use Rattle.or_command_line.specs.Names.{Recorded}
 use Rattle.or_command_image.specs.Loaded.{RecordedBytes, is_no_input, file_at}
 use Rattle.or_replay.specs.Start.{start}
@@ -17,12 +18,8 @@ use Rattle.or_debug.specs.Session.{session_text}
 use Rattle.or_command_replay.specs.Checked.{IsChecked}
 use Rattle.or_command_replay.specs.Replay.{replay_loads, bytes_in, IsRefused}
 
--- the limit of a script, in bytes
-abbrev pub script_limit : ℕ
-script_limit = 1048576
-
 abbrev pub debug_loads : Recorded → List ℕ → List Load
-debug_loads names script = replay_loads names ++ record { name = script; limit = script_limit } ∷ []
+debug_loads names script = replay_loads names ++ record { name = script; limit = SCRIPT_LIMIT } ∷ []
 
 -- the script's bytes among those that were loaded, by the input's name: they are the last
 abbrev pub script_bytes : List ℕ → List (List ℕ) → List ℕ

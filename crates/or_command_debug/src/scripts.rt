@@ -14,15 +14,8 @@ use or_command_image::file_at;
 use or_command_line::Recorded;
 use or_debug::ScriptFault;
 use or_host::Host;
+use or_words::limits::{IMAGE_LIMIT, INPUT_LIMIT, RECORDING_LIMIT, SCRIPT_LIMIT};
 use std::alloc::Global;
-
-const IMAGE_LIMIT: usize = 67_108_864;
-
-const INPUT_LIMIT: usize = 1_048_576;
-
-const RECORDING_LIMIT: usize = 671_088_640;
-
-const SCRIPT_LIMIT: usize = 1_048_576;
 
 /// Loads the image, the input where its name is not `-`, the recording and the script.
 pub fn load_debugged<'a, H: Host>(

@@ -1,35 +1,26 @@
 -- The files that a command on an image, a console's input and a recording loads.
 use Rattle.std.specs.Prelude.{ℕ, List, [], ◌∷◌, ◌++◌, Bool, Option, Some, None, codes, if◌then◌else◌, slice_index_or}
 use Rattle.std.specs.Str.{bytes_eq}
+use Rattle.or_words.specs.declared.limits.TheConstants.{IMAGE_LIMIT, INPUT_LIMIT, RECORDING_LIMIT}
 use Rattle.or_command.specs.Loads.{Load}
 use Rattle.or_command.specs.Lines.{image_line}
 use Rattle.or_command.specs.Ends.{FailedCheck}
 use Rattle.or_elf.specs.declared.fault.ElfFault.{ElfFault}
 use Rattle.or_elf.specs.Fault.{number_of, place_of}
 
--- the limits of an image, of an input and of a recording, in bytes
-abbrev pub image_limit : ℕ
-image_limit = 67108864
-
-abbrev pub input_limit : ℕ
-input_limit = 1048576
-
-abbrev pub recording_limit : ℕ
-recording_limit = 671088640
-
 -- `-` stands for no input, and is not loaded
 abbrev pub is_no_input : List ℕ → Bool
 is_no_input name = bytes_eq name (codes "-")
 
 abbrev pub input_loads : List ℕ → List Load
-input_loads name = if is_no_input name then [] else record { name = name; limit = input_limit } ∷ []
+input_loads name = if is_no_input name then [] else record { name = name; limit = INPUT_LIMIT } ∷ []
 
 abbrev pub image_loads : List ℕ → List ℕ → List Load
-image_loads image input = record { name = image; limit = image_limit } ∷ input_loads input
+image_loads image input = record { name = image; limit = IMAGE_LIMIT } ∷ input_loads input
 
 -- with a recording of the run behind them
 abbrev pub recorded_loads : List ℕ → List ℕ → List ℕ → List Load
-recorded_loads image input recording = image_loads image input ++ record { name = recording; limit = recording_limit } ∷ []
+recorded_loads image input recording = image_loads image input ++ record { name = recording; limit = RECORDING_LIMIT } ∷ []
 
 -- the image's bytes among those that were loaded, and the input's, which are none where none was loaded
 abbrev pub image_in : List (List ℕ) → List ℕ

@@ -10,13 +10,8 @@ ghost use Rattle.or_command_image.specs.Loaded.{image_loads, recorded_loads, ima
 
 use or_command::{Input, LoadStop, load_files};
 use or_host::Host;
+use or_words::limits::{IMAGE_LIMIT, INPUT_LIMIT, RECORDING_LIMIT};
 use std::alloc::Global;
-
-const IMAGE_LIMIT: usize = 67_108_864;
-
-const INPUT_LIMIT: usize = 1_048_576;
-
-const RECORDING_LIMIT: usize = 671_088_640;
 
 /// Loads the image, and then the input where its name is not `-`.
 pub fn load_image<'a, H: Host>(

@@ -1,5 +1,6 @@
 -- From the parts of a replay to its outcome.
 use Rattle.std.proofs.Common.{◌≡◌, ◌∙◌, sym, ap, subst, ℕ, ◌≤◌, List, [], ◌∷◌, ◌++◌, length, Option, Some, None, Bool, true, false, cond, refl}
+use Rattle.or_words.specs.declared.limits.TheConstants.{INPUT_LIMIT, RECORDING_LIMIT}
 use Rattle.or_host.specs.HostState.{HostState}
 use Rattle.or_model.specs.Core.{Core}
 use Rattle.or_model.specs.Turn.{Board}
@@ -11,7 +12,7 @@ use Rattle.or_command.specs.Ends.{FailedCheck, CommandEnd, done, unread, too_lon
 use Rattle.or_command.specs.Outcomes.{AreApart}
 use Rattle.or_command.specs.Finishing.{WriteEnds, WritesSoFar, GoesOn, end_of_check}
 use Rattle.or_command_line.specs.Names.{Recorded, IsReport}
-use Rattle.or_command_image.specs.Loaded.{RecordedBytes, is_no_input, input_limit, recording_limit}
+use Rattle.or_command_image.specs.Loaded.{RecordedBytes, is_no_input}
 use Rattle.or_replay.specs.Report.{report_text}
 use Rattle.or_command_replay.specs.declared.checked.Checked.{Checked}
 use Rattle.or_command_replay.specs.declared.checked.RunFault.{RunFault}
@@ -44,7 +45,7 @@ image_small names (file ∷ files) state read = read.1
 
 -- the report is none of the files that are loaded
 loads_apart : (dash : Bool) (names : Recorded) (report text : List ℕ) → IsReport names report
-    → AreApart (cond dash [] (record { name = names.input; limit = input_limit } ∷ []) ++ record { name = names.schedule; limit = recording_limit } ∷ []) (record { name = report; text = text } ∷ [])
+    → AreApart (cond dash [] (record { name = names.input; limit = INPUT_LIMIT } ∷ []) ++ record { name = names.schedule; limit = RECORDING_LIMIT } ∷ []) (record { name = report; text = text } ∷ [])
 loads_apart true names report text is = ((λ e. is.schedule (sym e), tt), tt)
 loads_apart false names report text is = ((λ e. is.input (sym e), tt), ((λ e. is.schedule (sym e), tt), tt))
 

@@ -2,6 +2,7 @@
 use Rattle.std.specs.Prelude.{◌≡◌, ◌≢◌, ◌⊎◌, ◌/◌, ℕ, List, [], Some, None, Err, take, length}
 use Rattle.sha2.specs.Sha256.{sha256}
 use Rattle.or_words.specs.Settings.{ram_bytes}
+use Rattle.or_words.specs.declared.limits.TheConstants.{BLOCK}
 use Rattle.or_elf.specs.declared.fault.ElfFault.{ElfFault}
 use Rattle.or_elf.specs.Fault.{elf_fault}
 use Rattle.or_sched.specs.declared.recording.Head.{Head}
@@ -75,7 +76,7 @@ pub record IsImageFault (image input recording : List ℕ) (fault : ElfFault) : 
 -- the first that refuses turns with their marks from a start
 pub record IsRefusedBy (first : Board) (turns : List ℕ) (marks : List Mark) (fault : TurnFault) : Type 0 where
   pub last : Board
-  pub followed : Followed 65536 first turns marks (Err fault) last
+  pub followed : Followed BLOCK first turns marks (Err fault) last
 
 -- the turns, with the marks of their blocks, can't be followed to an end at which every core has stopped
 pub record IsTurnFault (image input recording : List ℕ) (fault : TurnFault) : Type 0 where
@@ -110,7 +111,7 @@ pub record IsEndOf (first : Board) (turns : List ℕ) (cores : List Core) (bus :
 
 -- a recording has marks of no block or of each
 abbrev pub AreOfBlocks : List ℕ → List Mark → Type 0
-AreOfBlocks turns marks = (marks ≡ []) ⊎ (length marks ≡ length turns / 65536)
+AreOfBlocks turns marks = (marks ≡ []) ⊎ (length marks ≡ length turns / BLOCK)
 
 -- a board at the end of a recording
 pub record LeadsToEnd (first : Board) (recording : Recording) (run : Checked) : Type 0 where

@@ -4,6 +4,7 @@ use Rattle.std.specs.Prelude.{Option, codes, ◌&&◌, ◌==◌}
 use Rattle.std.specs.Str.{bytes_eq}
 use Rattle.or_words.specs.declared.Config.{Config}
 use Rattle.or_words.specs.Settings.{ram_bytes}
+use Rattle.or_words.specs.declared.limits.TheConstants.{INPUT_LIMIT}
 use Rattle.or_elf.specs.declared.fault.ElfFault.{ElfFault}
 use Rattle.or_elf.specs.Fault.{elf_fault, number_of, place_of}
 use Rattle.or_host.specs.HostState.{HostState}
@@ -12,7 +13,7 @@ use Rattle.or_command.specs.Loads.{AreRead}
 use Rattle.or_command.specs.Writes.{File}
 use Rattle.or_command.specs.Ends.{FailedCheck}
 use Rattle.or_command.specs.Outcomes.{AreApart}
-use Rattle.or_command_image.specs.Loaded.{image_loads, image_in, image_check, input_limit}
+use Rattle.or_command_image.specs.Loaded.{image_loads, image_in, image_check}
 use Rattle.or_command_line.specs.Names.{Names, AreWritten}
 use Rattle.or_command_run.specs.Run.{run_loads, run_check, RunWrites, run_status}
 
@@ -25,7 +26,7 @@ abbrev outputs : Names → List ℕ → List ℕ → List File
 outputs names recording report = record { name = names.schedule; text = recording } ∷ record { name = names.report; text = report } ∷ []
 
 input_apart : (dash : Bool) (names : Names) (recording report : List ℕ) → AreWritten names
-    → AreApart (cond dash [] (record { name = names.input; limit = input_limit } ∷ [])) (outputs names recording report)
+    → AreApart (cond dash [] (record { name = names.input; limit = INPUT_LIMIT } ∷ [])) (outputs names recording report)
 input_apart true names recording report written = tt
 input_apart false names recording report written =
     ((λ e. written.schedule_input (sym e), (λ e. written.report.input (sym e), tt)), tt)

@@ -5,6 +5,7 @@ ghost use Rattle.or_model.specs.Turn.{Board as BoardModel};
 ghost use Rattle.or_replay.specs.Start.{start};
 ghost use Rattle.or_board.specs.Works.{IsThreadedRun};
 ghost use Rattle.or_words.specs.Settings.{Fits, ram_bytes};
+ghost use Rattle.or_words.specs.declared.limits.TheConstants.{IMAGE_LIMIT};
 ghost use Rattle.or_elf.specs.Fault.{elf_fault};
 ghost use Rattle.or_command_line.specs.Words.{IsFileName};
 ghost use Rattle.or_command_line.specs.Settings.{FitsStay};
@@ -113,7 +114,7 @@ fn make<R: Threads + Wait + Sync, G: Gate + Sync>(
 ) -> Result<BenchTexts, OpenFault>
     requires numbers { FitsWorkload workload.now }
     requires stay { FitsStay stay }
-    requires limit { length image.now ≤ 67108864 }
+    requires limit { length image.now ≤ IMAGE_LIMIT }
     ensures run { MatchResult result
         (λ texts. (elf_fault image.now (ram_bytes (bench_config workload.now)) ≡ None) × IsBenchFrom (start (bench_config workload.now) image.now []) (head_of (bench_config workload.now) image.now []) workload.now texts.recording.items texts.told.items)
         (λ fault. RunFails image.now (ram_bytes (bench_config workload.now)) fault) }
@@ -156,7 +157,7 @@ fn finish<'a, R: Threads + Wait + Sync, H: Host, G: Gate + Sync>(
     requires name { IsFileName schedule.now }
     requires stay { FitsStay stay }
     requires image { IsFileOf (bench_source workload.now) image.now }
-    requires limit { length image.now ≤ 67108864 }
+    requires limit { length image.now ≤ IMAGE_LIMIT }
     ensures outcome { FinishEnds (bench_check workload.now) (BenchWrites workload.now schedule.now) [] (end_of result) (H.state host.old) (H.state host.new) }
     ensures silent { Silent (H.state host.old) (H.state host.new) }
 {
@@ -170,7 +171,7 @@ fn finish<'a, R: Threads + Wait + Sync, H: Host, G: Gate + Sync>(
 fn image(alloc: Global, workload: &Workload) -> Result<Vec<u8>, AsmFault>
     requires numbers { FitsWorkload workload.now }
     ensures file { MatchResult result (λ image. IsFileOf (bench_source workload.now) image.items) (λ fault. Refuses fault (source_of (bench_source workload.now))) }
-    ensures limit { IfOk result (λ image. length image.items ≤ 67108864) }
+    ensures limit { IfOk result (λ image. length image.items ≤ IMAGE_LIMIT) }
 {
     let mut source = Vec::new(alloc);
     match program(workload.seed, workload.cores, workload.rounds, &mut source) {

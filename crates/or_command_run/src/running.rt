@@ -5,6 +5,7 @@ ghost use Rattle.or_model.specs.Turn.{Board as BoardModel};
 ghost use Rattle.or_replay.specs.Board.{AreOfBus};
 ghost use Rattle.or_board.specs.Works.{IsThreadedRun};
 ghost use Rattle.or_words.specs.Settings.{Fits, ram_bytes};
+ghost use Rattle.or_words.specs.declared.limits.TheConstants.{IMAGE_LIMIT};
 ghost use Rattle.or_elf.specs.Fault.{elf_fault};
 ghost use Rattle.or_command_line.specs.Names.{run_names, AreWritten};
 ghost use Rattle.or_command_line.specs.Settings.{FitsStay};
@@ -134,7 +135,7 @@ fn make<R: Threads + Wait + Sync, G: Gate + Sync>(
 ) -> Result<RunTexts, OpenFault>
     requires fits { Fits options.now.config }
     requires stay { FitsStay options.now.stay }
-    requires limit { length image.now ≤ 67108864 }
+    requires limit { length image.now ≤ IMAGE_LIMIT }
     ensures run { MatchResult result
         (λ texts. (elf_fault image.now (ram_bytes options.now.config) ≡ None) × IsRun options.now.config image.now input.now texts.recording.items texts.report.items texts.console.items texts.failed)
         (λ fault. RunFails image.now (ram_bytes options.now.config) fault) }
@@ -164,7 +165,7 @@ fn finish<'a, R: Threads + Wait + Sync, H: Host, G: Gate + Sync>(
     requires names { AreWritten (run_names words.now) }
     requires fits { Fits words.now.options.config }
     requires stay { FitsStay words.now.options.stay }
-    requires limit { length (image_of (bytes_of files.now)) ≤ 67108864 }
+    requires limit { length (image_of (bytes_of files.now)) ≤ IMAGE_LIMIT }
     ensures outcome { FinishEnds (run_check (run_names words.now) words.now.options.config) (RunWrites (run_names words.now) words.now.options.config result.failed) (bytes_of files.now) (end_of result.outcome) (H.state host.old) (H.state host.new) }
     ensures silent { Silent (H.state host.old) (H.state host.new) }
 {

@@ -1,5 +1,6 @@
 -- What the command `asm` loads, checks and writes.
 use Rattle.std.specs.Prelude.{◌≡◌, ℕ, List, [], ◌∷◌, Option, Some, None, Result, Ok, Err}
+use Rattle.or_words.specs.declared.limits.TheConstants.{SOURCE_LIMIT}
 use Rattle.or_asm_read.specs.declared.fault.Fault.{Fault}
 use Rattle.or_asm_read.specs.Faults.{number_of_fault}
 use Rattle.or_asm.specs.Source.{source_of}
@@ -9,12 +10,8 @@ use Rattle.or_command.specs.Writes.{File}
 use Rattle.or_command.specs.Lines.{source_line}
 use Rattle.or_command.specs.Ends.{FailedCheck}
 
--- the limit of a source, in bytes
-abbrev pub source_limit : ℕ
-source_limit = 4194304
-
 abbrev pub asm_loads : List ℕ → List Load
-asm_loads source = record { name = source; limit = source_limit } ∷ []
+asm_loads source = record { name = source; limit = SOURCE_LIMIT } ∷ []
 
 -- the one file that was loaded
 abbrev pub only_file : List (List ℕ) → List ℕ

@@ -1,5 +1,6 @@
 -- How far a text has come to standard output, piece by piece.
 use Rattle.std.specs.Prelude.{◌≡◌, ℕ, List, ◌++◌, Some, None, Result, Ok, Err}
+use Rattle.or_words.specs.declared.limits.TheConstants.{MOST_RAM_BYTES}
 use Rattle.or_elf.specs.Fault.{elf_fault}
 use Rattle.or_host.specs.declared.host.Deed.TheVariants.{Write}
 use Rattle.or_host.specs.Bytes.{Adds, AddsPrefix}
@@ -45,9 +46,9 @@ pub record SoFar (rest whole : List ℕ) (old now : HostState) : Type 0 where
 
 -- how the command `dis` ends on an image that was loaded
 abbrev pub DisEnds : List ℕ → List ℕ → CommandEnd → HostState → HostState → Type 0
-DisEnds name image done old new = (elf_fault image 268435456 ≡ None) × Wrote (listing image) old new
-DisEnds name image (unwritten out) old new = (elf_fault image 268435456 ≡ None) × (out ≡ dash) × WroteUntilFault (listing image) old new
-DisEnds name image (refused fault) old new = (fault_check name (elf_fault image 268435456) ≡ Some fault) × (new ≡ old)
-DisEnds name image no_memory old new = (elf_fault image 268435456 ≡ None) × WroteUntilLack (listing image) old new
+DisEnds name image done old new = (elf_fault image MOST_RAM_BYTES ≡ None) × Wrote (listing image) old new
+DisEnds name image (unwritten out) old new = (elf_fault image MOST_RAM_BYTES ≡ None) × (out ≡ dash) × WroteUntilFault (listing image) old new
+DisEnds name image (refused fault) old new = (fault_check name (elf_fault image MOST_RAM_BYTES) ≡ Some fault) × (new ≡ old)
+DisEnds name image no_memory old new = (elf_fault image MOST_RAM_BYTES ≡ None) × WroteUntilLack (listing image) old new
 DisEnds name image (unread file) old new = ⊥
 DisEnds name image (too_long file limit) old new = ⊥

@@ -1,6 +1,7 @@
 -- What the command `dis` loads, checks and writes: the words of an image's segments, as instructions.
 use Rattle.std.specs.Prelude.{◌≡◌, ◌⊎◌, ℕ, ◌+◌, ◌-◌, ◌%◌, List, [], ◌∷◌, ◌++◌, take, drop, codes, Option, Some, None}
 use Rattle.std.specs.List.{flat_map}
+use Rattle.or_words.specs.declared.limits.TheConstants.{IMAGE_LIMIT, MOST_RAM_BYTES}
 use Rattle.byteorder.specs.Endian.{big_number}
 use Rattle.or_text.specs.Hexadecimal.{word_text}
 use Rattle.or_isa.specs.declared.Insn.{Insn}
@@ -49,7 +50,7 @@ unfoldable pub listing : List ℕ → List ℕ
 listing bytes = flat_map (segment_lines bytes) (segments bytes)
 
 abbrev pub dis_loads : List ℕ → List Load
-dis_loads image = record { name = image; limit = 67108864 } ∷ []
+dis_loads image = record { name = image; limit = IMAGE_LIMIT } ∷ []
 
 abbrev pub fault_check : List ℕ → Option ElfFault → Option FailedCheck
 fault_check name None = None
@@ -57,7 +58,7 @@ fault_check name (Some fault) = Some (record { status = 3; line = image_line nam
 
 -- the image has no fault for 256 MiB of RAM
 abbrev pub dis_check : List ℕ → List (List ℕ) → Option FailedCheck
-dis_check image files = fault_check image (elf_fault (only_file files) 268435456)
+dis_check image files = fault_check image (elf_fault (only_file files) MOST_RAM_BYTES)
 
 -- no file is written, and the listing goes to standard output
 pub record DisWrites (files : List (List ℕ)) (outs : List File) (console : List ℕ) : Type 0 where

@@ -1,5 +1,6 @@
 //! The command `asm`.
 ghost use Rattle.std.specs.Prelude.{◌≡◌, ◌≢◌, ◌≤◌, ℕ, List, Result, [], ◌∷◌, IfOk, MatchResult, length};
+ghost use Rattle.or_words.specs.declared.limits.TheConstants.{IMAGE_LIMIT};
 ghost use Rattle.or_asm_read.specs.declared.fault.Fault.{Fault};
 ghost use Rattle.or_asm.specs.Source.{source_of, Refuses};
 ghost use Rattle.or_elf.specs.Text.{Piece};
@@ -17,18 +18,17 @@ use or_asm::{AsmFault, assemble};
 use or_command::{Input, LoadStop, Outcome, Refusal, conclude, load_files};
 use or_host::Host;
 use or_isa::Program;
+use or_words::limits::SOURCE_LIMIT;
 use std::alloc::Global;
-
-const SOURCE_LIMIT: usize = 4_194_304;
 
 /// The ELF file of the program of a source of at most 4 MiB, which has at most 64 MiB.
 ///
 /// Errors: the least fault of the source's first faulty line; NoMemory.
 #[tactic(auto, using(crate::proofs::Ending::files))]
 pub fn program_file(alloc: Global, source: &[u8]) -> Result<Vec<u8>, AsmFault>
-    requires limit { length source.now ≤ 4194304 }
+    requires limit { length source.now ≤ SOURCE_LIMIT }
     ensures file { MatchResult result (λ file. IsFileOf source.now file.items) (λ fault. Refuses fault (source_of source.now)) }
-    ensures small { IfOk result (λ file. length file.items ≤ 67108864) }
+    ensures small { IfOk result (λ file. length file.items ≤ IMAGE_LIMIT) }
 {
     let mut program = Program {
         pieces: Vec::new(alloc),
@@ -64,7 +64,7 @@ fn finish<'a, H: Host>(
     host: &mut H,
 ) -> Outcome<'a>
     requires names { IsAssembly source.now image.now }
-    requires limit { length (only_file (bytes_of files.now)) ≤ 4194304 }
+    requires limit { length (only_file (bytes_of files.now)) ≤ SOURCE_LIMIT }
     ensures outcome { FinishEnds (asm_check source.now) (AsmWrites image.now) (bytes_of files.now) (end_of result) (H.state host.old) (H.state host.new) }
     ensures silent { Silent (H.state host.old) (H.state host.new) }
 {

@@ -14,21 +14,17 @@ use crate::files::only_file;
 use crate::listing::{ListStop, list_segments};
 use or_command::{Input, LoadStop, Outcome, Refusal, conclude, load_files};
 use or_host::Host;
+use or_words::limits::{IMAGE_LIMIT, MOST_RAM_BYTES};
 use std::alloc::Global;
-
-const IMAGE_LIMIT: usize = 67_108_864;
-
-// The largest RAM of a board, in bytes.
-const RAM: u32 = 268_435_456;
 
 // How the command ends on an image that was loaded.
 #[tactic(auto, unfolding(crate::specs::Listing::listing))]
 fn finish<'a, H: Host>(alloc: Global, name: &'a str, image: &[u8], host: &mut H) -> Outcome<'a>
-    requires limit { length image.now ≤ 67108864 }
+    requires limit { length image.now ≤ IMAGE_LIMIT }
     ensures outcome { DisEnds name.now image.now (end_of result) (H.state host.old) (H.state host.new) }
     ensures silent { Silent (H.state host.old) (H.state host.new) }
 {
-    let segments = match or_elf::read(image, RAM) {
+    let segments = match or_elf::read(image, MOST_RAM_BYTES) {
         Ok(image) => image.segments,
         Err(fault) => {
             return Outcome::Refused(Refusal::Image {

@@ -1,6 +1,7 @@
 //! Writes the text of an image a line at a time.
 ghost use Rattle.std.specs.Prelude.{◌≡◌, ◌≤◌, ◌<◌, ◌+◌, ◌%◌, ◌^◌, ◌++◌, ℕ, [], codes, length, take, drop, OnOk, IfOk, IfSome, MatchOption};
 ghost use Rattle.std.specs.List.{All, flat_map};
+ghost use Rattle.or_words.specs.declared.limits.TheConstants.{MOST_RAM_BYTES};
 ghost use Rattle.or_text.specs.Hexadecimal.{word_text};
 ghost use Rattle.or_isa.specs.Decode.{decode_of};
 ghost use Rattle.or_elf.specs.Fault.{IsInside};
@@ -157,7 +158,7 @@ fn list_segment<H: Host>(
     segment: &Segment,
     host: &mut H,
 ) -> Result<(), ListStop>
-    requires inside { IsInside (length bytes.now) 268435456 segment.now }
+    requires inside { IsInside (length bytes.now) MOST_RAM_BYTES segment.now }
     ensures lists { Lists result (segment_lines bytes.now segment.now) (H.state host.old) (H.state host.new) }
     ensures silent { Silent (H.state host.old) (H.state host.new) }
 {
@@ -175,7 +176,7 @@ pub(crate) fn list_segments<H: Host>(
     segments: &[Segment],
     host: &mut H,
 ) -> Result<(), ListStop>
-    requires { All (IsInside (length bytes.now) 268435456) segments.now }
+    requires { All (IsInside (length bytes.now) MOST_RAM_BYTES) segments.now }
     ensures lists { Lists result (flat_map (segment_lines bytes.now) segments.now) (H.state host.old) (H.state host.new) }
     ensures silent { Silent (H.state host.old) (H.state host.new) }
 {
