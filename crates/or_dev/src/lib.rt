@@ -6,6 +6,3 @@ mod serial;
 
 pub use controller::Ompic;
 pub use serial::Uart;
-
-#[cfg(test)]
-mod tests;

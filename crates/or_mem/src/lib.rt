@@ -8,6 +8,3 @@ mod memory;
 pub use caches::DCaches;
 pub use data_cache::{DataCache, word_at, write_at};
 pub use memory::Ram;
-
-#[cfg(test)]
-mod tests;

@@ -123,25 +123,3 @@ fn none_stands(slots: &[Option<u32>]) -> bool
 {
     slots.iter().all(|slot| slot.is_none())
 }
-
-#[cfg(test)]
-mod tests {
-    use super::*;
-
-    #[test]
-    fn reservations_end(rt: HostRuntime) {
-        let mut reservations = Reservations::empty();
-        reservations.reserve(0, 0x1000);
-        reservations.reserve(1, 0x1000);
-        reservations.reserve(7, 0x1004);
-        assert!(rt; reservations.stands(0, 0x1000) && reservations.stands(1, 0x1000));
-        reservations.wrote(0x1000);
-        assert!(rt; !reservations.stands(0, 0x1000) && !reservations.stands(1, 0x1000));
-        assert!(rt; reservations.stands(7, 0x1004), "no other word was written");
-        reservations.reserve(0, 0x1000);
-        reservations.reserve(0, 0x2000);
-        assert!(rt; !reservations.stands(0, 0x1000) && reservations.stands(0, 0x2000));
-        reservations.cancel(0);
-        assert!(rt; !reservations.stands(0, 0x2000) && reservations.stands(7, 0x1004));
-    }
-}

@@ -9,6 +9,3 @@ mod routes;
 pub use or_parts::{Cause, Place, SprRoute};
 pub use registers::Sprs;
 pub use routes::route;
-
-#[cfg(test)]
-mod tests;

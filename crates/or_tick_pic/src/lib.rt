@@ -7,6 +7,3 @@ mod timer;
 
 pub use interrupts::Pic;
 pub use timer::Tick;
-
-#[cfg(test)]
-mod tests;

@@ -144,6 +144,3 @@ impl Tlb {
         translation
     }
 }
-
-#[cfg(test)]
-mod tests;
