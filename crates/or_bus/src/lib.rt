@@ -18,6 +18,3 @@ pub use or_model::{Counts, Fetched};
 /// Nothing on the board answers an access of this width at this address.
 #[derive(Clone, Copy, Debug, PartialEq, Eq)]
 pub struct BusError;
-
-#[cfg(test)]
-mod tests;
