@@ -5,5 +5,3 @@
 pub mod names;
 pub mod operands;
 pub mod printing;
-#[cfg(test)]
-mod tests;

@@ -19,8 +19,3 @@ pub use segment::Segment;
 pub use symbol_fault::SymFault;
 pub use symbols::{Function, Symbols};
 pub use writer::write;
-
-#[cfg(test)]
-mod symbol_tests;
-#[cfg(test)]
-mod tests;

@@ -9,6 +9,3 @@ mod tallying;
 mod texts;
 
 pub use profiling::Profile;
-
-#[cfg(test)]
-mod tests;

@@ -12,6 +12,3 @@ mod word;
 
 pub use races::Races;
 pub use whole::{Added, report_of};
-
-#[cfg(test)]
-mod tests;

@@ -3,8 +3,6 @@
 
 mod head;
 pub mod laws;
-#[cfg(test)]
-mod long_tests;
 mod places;
 mod reader;
 mod recording;
