@@ -16,6 +16,3 @@ mod turn;
 pub use or_model::Stop;
 pub use private::Private;
 pub use state::Core;
-
-#[cfg(test)]
-mod tests;
