@@ -85,8 +85,9 @@ const COMMANDS: [Help; 10] = [
     },
     Help {
         name: "asm",
-        words: "SRC IMAGE",
+        words: "SRC IMAGE [--symbols]",
         text: "    Assembles the source SRC and writes the ELF32 file of its program to IMAGE.
+    --symbols adds a symbol table with a symbol for each label, so that other commands show names.
 ",
         example: "or1k asm program.s program.elf",
     },

@@ -4,3 +4,6 @@ pub mod Cut
 pub mod Firsts
 pub mod LastPiece
 pub mod Pairs
+pub mod NextPlace
+pub mod LabelNames
+pub mod SortedEntries

@@ -3,3 +3,4 @@ pub mod Lines
 pub mod Pairs
 pub mod Program
 pub mod Source
+pub mod Symbols

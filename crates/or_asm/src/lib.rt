@@ -10,11 +10,13 @@ mod fault;
 mod lines;
 mod passes;
 mod pieces;
+mod symbols;
 
 pub use fault::AsmFault;
 pub use or_asm_text::printing::print;
 use or_isa::Program;
 use std::alloc::Global;
+pub use symbols::program_symbols;
 
 /// Assembles a source of at most 4 MiB. The program's pieces stand in the order in which the source begins them; a piece
 /// begins with the first word after the start, which is at 00000100, or after an `.org`. A refusal is the least fault of

@@ -43,8 +43,8 @@ fn note_label<'a>(
     }
 }
 
-// The labels of a text, with their places.
-fn labels(alloc: Global, text: &[u8]) -> Result<LabelTable<'_>, AllocError>
+/// The labels of a text, with their places.
+pub(crate) fn labels(alloc: Global, text: &[u8]) -> Result<LabelTable<'_>, AllocError>
     requires { length text.now ≤ 4194304 }
     ensures { IfOk result (λ labels. labels ≡ labels_from 0x100 (lines_of text.now)) }
 {

@@ -6,8 +6,8 @@ ghost use Rattle.or_asm.specs.Program.{covers, appended, extended};
 use or_isa::Piece;
 use std::alloc::{AllocError, Global};
 
-// Whether a piece has a word at a place.
-fn piece_covers(piece: &Piece, place: u32) -> bool
+/// Whether a piece has a word at a place.
+pub(crate) fn piece_covers(piece: &Piece, place: u32) -> bool
     ensures { result ≡ covers place piece.now }
 {
     piece.place <= place && (place - piece.place) as usize / 4 < piece.words.len()

@@ -62,6 +62,13 @@ impl<'a> LabelTable<'a> {
         Ok(LabelTable { list, index })
     }
 
+    /// The labels, in the order of their lines.
+    pub fn entries(&self) -> &[(&'a [u8], u32)]
+        ensures { map (λ label. (label.0.now, label.1)) result.now ≡ self.now }
+    {
+        self.list.as_slice()
+    }
+
     // The number of the first label of this name, from 0.
     fn number(&self, name: &[u8]) -> Option<usize>
         ensures { result ≡ first_number_of self.now name.now }

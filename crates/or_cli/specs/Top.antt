@@ -48,7 +48,7 @@ pub record IsUsage (old new : HostState) : Type 0 where
 abbrev pub CommandEnds : Shown → ℕ → HostState → HostState → Type 0
 CommandEnds (run names options) status old new = RunAnswers names options status old new
 CommandEnds (replay files report) status old new = AnswersBy (replay_loads files) (RecordedVerdict files) (ReplayWrites files report) LeavesAll status old new
-CommandEnds (asm source image) status old new = Answers (asm_loads source) (asm_check source) (AsmWrites image) LeavesAll status old new
+CommandEnds (asm source image symbols) status old new = Answers (asm_loads source) (asm_check source) (AsmWrites image symbols) LeavesAll status old new
 CommandEnds (dis image) status old new = Answers (dis_loads image) (dis_check image) DisWrites (DisLacks image) status old new
 CommandEnds (debug files script) status old new = AnswersBy (debug_loads files script) (DebugVerdict files script) (DebugWrites files) LeavesAll status old new
 CommandEnds (gen workload source) status old new = Answers gen_loads gen_check (GenWrites workload source) LeavesAll status old new
@@ -61,7 +61,7 @@ CommandEnds (prof files) status old new = AnswersBy (prof_loads files) (ProfVerd
 abbrev pub IsComplete : Shown → ℕ → HostState → HostState → Type 0
 IsComplete (run names options) status old new = RunDecided names options status old new
 IsComplete (replay files report) status old new = IsDecidedBy (replay_loads files) (RecordedVerdict files) (ReplayWrites files report) LeavesAll status old new
-IsComplete (asm source image) status old new = IsDecided (asm_loads source) (asm_check source) (AsmWrites image) LeavesAll status old new
+IsComplete (asm source image symbols) status old new = IsDecided (asm_loads source) (asm_check source) (AsmWrites image symbols) LeavesAll status old new
 IsComplete (dis image) status old new = IsDecided (dis_loads image) (dis_check image) DisWrites (DisLacks image) status old new
 IsComplete (debug files script) status old new = IsDecidedBy (debug_loads files script) (DebugVerdict files script) (DebugWrites files) LeavesAll status old new
 IsComplete (gen workload source) status old new = IsDecided gen_loads gen_check (GenWrites workload source) LeavesAll status old new

@@ -65,7 +65,14 @@ fn print_command<R: Print>(rt: &R, command: &Command<'_>) -> Result<(), CaseFaul
             print_workload(rt, "bench", workload, schedule)?;
             println!(rt; " stay {stay}")?;
         }
-        Command::Asm { source, image } => println!(rt; "asm {source} {image}")?,
+        Command::Asm {
+            source,
+            image,
+            symbols,
+        } => {
+            print!(rt; "asm {source} {image}")?;
+            println!(rt; "{}", if *symbols { " symbols" } else { "" })?;
+        }
         Command::Dis { image } => println!(rt; "dis {image}")?,
         Command::Replay { files, report } => {
             print_recorded(rt, "replay", files)?;

@@ -1,5 +1,5 @@
 -- The commands and their words.
-use Rattle.std.specs.Prelude.{ℕ, List, [], ◌∷◌, ◌&&◌, if◌then◌else◌, Option, Some, None, codes}
+use Rattle.std.specs.Prelude.{ℕ, Bool, List, [], ◌∷◌, ◌&&◌, if◌then◌else◌, Option, Some, None, codes}
 use Rattle.std.specs.Str.{bytes_eq}
 use Rattle.or_words.specs.Settings.{Fits}
 use Rattle.or_command_line.specs.declared.RunOptions.{RunOptions}
@@ -8,14 +8,14 @@ use Rattle.or_command_line.specs.declared.Command.{Command}
 use Rattle.or_command_line.specs.declared.Command.TheVariants.{Run as IsRun, Replay as IsReplay, Asm as IsAsm, Dis as IsDis, Debug as IsDebug, Gen as IsGen, Bench as IsBench, Back as IsBack, Race as IsRace, Prof as IsProf}
 use Rattle.or_command_line.specs.Words.{is_name, differ, IsFileName}
 use Rattle.or_command_line.specs.Names.{Names, Recorded, recorded_names, run_names, are_recorded, is_report, are_run_names, AreRecorded, IsReport, AreWritten, IsAssembly}
-use Rattle.or_command_line.specs.Settings.{run_options_of, stay_alone_of, every_of, FitsStay, FitsEvery}
+use Rattle.or_command_line.specs.Settings.{run_options_of, stay_alone_of, symbols_alone_of, every_of, FitsStay, FitsEvery}
 use Rattle.or_command_line.specs.Workloads.{workload_of, FitsWorkload}
 
 -- a command as contracts see it
 pub data Shown : Type 0 where
   run : Names → RunOptions → Shown
   replay : Recorded → List ℕ → Shown
-  asm : List ℕ → List ℕ → Shown
+  asm : List ℕ → List ℕ → Bool → Shown
   dis : List ℕ → Shown
   debug : Recorded → List ℕ → Shown
   gen : Workload → List ℕ → Shown
@@ -44,9 +44,13 @@ unfoldable pub replay_of : List (List ℕ) → Option Shown
 replay_of (image ∷ input ∷ schedule ∷ report ∷ []) = replay_where (record { image = image; input = input; schedule = schedule }) report
 replay_of _ = None
 
--- `SRC IMAGE`
+-- `SRC IMAGE [--symbols]`
+abbrev pub asm_where : List ℕ → List ℕ → Option Bool → Option Shown
+asm_where source image None = None
+asm_where source image (Some symbols) = if (is_name source && is_name image) && differ image source then Some (asm source image symbols) else None
+
 unfoldable pub asm_of : List (List ℕ) → Option Shown
-asm_of (source ∷ image ∷ []) = if (is_name source && is_name image) && differ image source then Some (asm source image) else None
+asm_of (source ∷ image ∷ options) = asm_where source image (symbols_alone_of options)
 asm_of _ = None
 
 -- `IMAGE`
@@ -137,7 +141,7 @@ command_of (verb ∷ words) =
 abbrev pub shown_command : Command → Shown
 shown_command (IsRun words) = run (run_names words) words.options
 shown_command (IsReplay files report) = replay (recorded_names files) report.now
-shown_command (IsAsm source image) = asm source.now image.now
+shown_command (IsAsm source image symbols) = asm source.now image.now symbols
 shown_command (IsDis image) = dis image.now
 shown_command (IsDebug files script) = debug (recorded_names files) script.now
 shown_command (IsGen workload source) = gen workload source.now
@@ -150,7 +154,7 @@ shown_command (IsProf files) = prof (recorded_names files)
 abbrev pub AreNamesOf : Shown → Type 0
 AreNamesOf (run names options) = AreWritten names × Fits options.config × FitsStay options.stay
 AreNamesOf (replay files report) = AreRecorded files × IsReport files report
-AreNamesOf (asm source image) = IsAssembly source image
+AreNamesOf (asm source image symbols) = IsAssembly source image
 AreNamesOf (dis image) = IsFileName image
 AreNamesOf (debug files script) = AreRecorded files × IsFileName script
 AreNamesOf (gen workload source) = FitsWorkload workload × IsFileName source

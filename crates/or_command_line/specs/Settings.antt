@@ -103,6 +103,14 @@ stay_without_rest (Some (stay, word ∷ rest)) = None
 unfoldable pub stay_alone_of : List (List ℕ) → Option ℕ
 stay_alone_of words = stay_without_rest (stay_of words)
 
+abbrev pub flag_without_rest : Bool × List (List ℕ) → Option Bool
+flag_without_rest (given, []) = Some given
+flag_without_rest (given, word ∷ rest) = None
+
+-- the option `[--symbols]` alone; none where another word stands
+unfoldable pub symbols_alone_of : List (List ℕ) → Option Bool
+symbols_alone_of words = flag_without_rest (flag_of (codes "--symbols") words)
+
 -- turns between two checkpoints: 1 to 2 ^ 29
 abbrev pub every_fits : ℕ → Bool
 every_fits every = nat_le 1 every && nat_le every 536870912

@@ -59,9 +59,11 @@ pub enum Command<'a> {
         files: Recorded<'a>,
         report: &'a str,
     },
+    /// With whether the image gets a symbol for each label.
     Asm {
         source: &'a str,
         image: &'a str,
+        symbols: bool,
     },
     Dis {
         image: &'a str,

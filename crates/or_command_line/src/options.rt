@@ -2,7 +2,7 @@
 ghost use Rattle.std.specs.Prelude.{◌≡◌, None, Some, MatchOption, IfSome, IsTrue};
 ghost use Rattle.or_words.specs.Settings.{Fits};
 ghost use Rattle.or_command_line.specs.Words.{texts};
-ghost use Rattle.or_command_line.specs.Settings.{option_of, flag_of, latch_of, config_of, config_fits, stay_of, stay_fits, FitsStay, run_options_of, stay_alone_of, every_of, every_fits, FitsEvery};
+ghost use Rattle.or_command_line.specs.Settings.{option_of, flag_of, latch_of, config_of, config_fits, stay_of, stay_fits, FitsStay, run_options_of, stay_alone_of, symbols_alone_of, every_of, every_fits, FitsEvery};
 
 use crate::RunOptions;
 use or_text::numerals::read_decimal;
@@ -166,6 +166,15 @@ pub(crate) fn stay_alone(words: &[String]) -> Option<u32>
         return None;
     };
     if rest.is_empty() { Some(stay) } else { None }
+}
+
+/// Whether the image gets symbols, where no other option may stand.
+#[tactic(auto, unfolding(crate::specs::Settings::symbols_alone_of))]
+pub(crate) fn symbols_alone(words: &[String]) -> Option<bool>
+    ensures value { result ≡ symbols_alone_of (texts words.now) }
+{
+    let (symbols, rest) = flag("--symbols", words);
+    if rest.is_empty() { Some(symbols) } else { None }
 }
 
 // Turns between two checkpoints: 1 to 2^29.

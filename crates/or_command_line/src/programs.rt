@@ -5,23 +5,30 @@ ghost use Rattle.or_command_line.specs.Workloads.{workload_of, workload_fits, Fi
 ghost use Rattle.or_command_line.specs.Command.{asm_of, dis_of, gen_of, bench_of, shown_command, AreNamesOf};
 
 use crate::names::is_name;
-use crate::options::stay_alone;
+use crate::options::{stay_alone, symbols_alone};
 use crate::{Command, Workload};
 use or_text::numerals::read_decimal;
 
-/// `SRC IMAGE`.
+/// `SRC IMAGE` and an option.
 #[tactic(auto, unfolding(crate::specs::Command::asm_of))]
 pub(crate) fn parse_asm(words: &[String]) -> Option<Command<'_>>
     ensures command { MatchOption result (asm_of (texts words.now) ≡ None) (λ command. asm_of (texts words.now) ≡ Some (shown_command command)) }
     ensures names { IfSome result (λ command. AreNamesOf (shown_command command)) }
 {
-    let [source, image] = words else {
+    let [source, image, options @ ..] = words else {
+        return None;
+    };
+    let Some(symbols) = symbols_alone(options) else {
         return None;
     };
     let source = source.as_str();
     let image = image.as_str();
     if (is_name(source) && is_name(image)) && image != source {
-        Some(Command::Asm { source, image })
+        Some(Command::Asm {
+            source,
+            image,
+            symbols,
+        })
     } else {
         None
     }

@@ -55,7 +55,7 @@ pub record IsBenchFrom (first : Board) (head : Head) (numbers : Workload) (recor
 -- the recording of a run of the workload's image without input is written, and the text goes to standard output
 pub record BenchWrites (numbers : Workload) (schedule : List ℕ) (files : List (List ℕ)) (outs : List File) (console : List ℕ) : Type 0 where
   pub image : List ℕ
-  pub is_image : IsFileOf (bench_source numbers) image
+  pub is_image : IsFileOf false (bench_source numbers) image
   pub recording : List ℕ
   pub is_bench : IsBenchFrom (start (bench_config numbers) image []) (head_of (bench_config numbers) image []) numbers recording console
   pub outputs : outs ≡ record { name = schedule; text = recording } ∷ []

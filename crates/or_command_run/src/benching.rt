@@ -156,7 +156,7 @@ fn finish<'a, R: Threads + Wait + Sync, H: Host, G: Gate + Sync>(
     requires numbers { FitsWorkload workload.now }
     requires name { IsFileName schedule.now }
     requires stay { FitsStay stay }
-    requires image { IsFileOf (bench_source workload.now) image.now }
+    requires image { IsFileOf false (bench_source workload.now) image.now }
     requires limit { length image.now ≤ IMAGE_LIMIT }
     ensures outcome { FinishEnds (bench_check workload.now) (BenchWrites workload.now schedule.now) [] (end_of result) (H.state host.old) (H.state host.new) }
     ensures silent { Silent (H.state host.old) (H.state host.new) }
@@ -170,7 +170,7 @@ fn finish<'a, R: Threads + Wait + Sync, H: Host, G: Gate + Sync>(
 // The image of a workload: its source, assembled.
 fn image(alloc: Global, workload: &Workload) -> Result<Vec<u8>, AsmFault>
     requires numbers { FitsWorkload workload.now }
-    ensures file { MatchResult result (λ image. IsFileOf (bench_source workload.now) image.items) (λ fault. Refuses fault (source_of (bench_source workload.now))) }
+    ensures file { MatchResult result (λ image. IsFileOf false (bench_source workload.now) image.items) (λ fault. Refuses fault (source_of (bench_source workload.now))) }
     ensures limit { IfOk result (λ image. length image.items ≤ IMAGE_LIMIT) }
 {
     let mut source = Vec::new(alloc);

@@ -1,5 +1,5 @@
 -- From how `asm` and `dis` end behind their loads to what they come to.
-use Rattle.std.proofs.Common.{◌≡◌, ◌≢◌, ◌∙◌, sym, ap, refl, subst, ℕ, List, [], ◌∷◌, ◌++◌, Option, Some, None, inl, inr, arith, append-nil, ◌≤◌, length}
+use Rattle.std.proofs.Common.{◌≡◌, ◌≢◌, ◌∙◌, sym, ap, refl, subst, ℕ, Bool, List, [], ◌∷◌, ◌++◌, Option, Some, None, inl, inr, arith, append-nil, ◌≤◌, length}
 use Rattle.std.specs.Prelude.{Result, Ok, Err, ◌⊎◌}
 use Rattle.or_asm_read.specs.declared.fault.Fault.{Fault}
 use Rattle.or_asm_read.specs.Faults.{number_of_fault}
@@ -26,9 +26,9 @@ use Rattle.or_command_source.specs.Generation.{gen_loads, gen_check, GenWrites}
 use Rattle.or_command_source.specs.Listed.{Wrote, DisEnds}
 
 -- the source is not the image that is written
-pub asm_apart : (source image : List ℕ) → image ≢ source → (files : List (List ℕ)) (outs : List File) (console : List ℕ)
-    → AsmWrites image files outs console → AreApart (asm_loads source) outs
-asm_apart source image apart files outs console writes = subst (AreApart (asm_loads source)) (sym writes.outputs) ((λ e. apart (sym e), tt), tt)
+pub asm_apart : (source image : List ℕ) (symbols : Bool) → image ≢ source → (files : List (List ℕ)) (outs : List File) (console : List ℕ)
+    → AsmWrites image symbols files outs console → AreApart (asm_loads source) outs
+asm_apart source image symbols apart files outs console writes = subst (AreApart (asm_loads source)) (sym writes.outputs) ((λ e. apart (sym e), tt), tt)
 
 pub source_status : (name : List ℕ) (said : Result (List Piece) (Fault × ℕ)) (fault : FailedCheck) → source_check name said ≡ Some fault → fault.status ≡ 9
 source_status name (Ok program) fault e = absurd (let b : ⊥ = cc in b)

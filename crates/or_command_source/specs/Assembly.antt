@@ -1,10 +1,13 @@
 -- What the command `asm` loads, checks and writes.
-use Rattle.std.specs.Prelude.{◌≡◌, ℕ, List, [], ◌∷◌, Option, Some, None, Result, Ok, Err}
+use Rattle.std.specs.Prelude.{◌≡◌, ℕ, Bool, true, false, List, [], ◌∷◌, Option, Some, None, Result, Ok, Err}
 use Rattle.or_words.specs.declared.limits.TheConstants.{SOURCE_LIMIT}
 use Rattle.or_asm_read.specs.declared.fault.Fault.{Fault}
 use Rattle.or_asm_read.specs.Faults.{number_of_fault}
 use Rattle.or_asm.specs.Source.{source_of}
+use Rattle.or_asm.specs.First.{all_labels}
+use Rattle.or_asm.specs.Symbols.{symbols_of}
 use Rattle.or_elf.specs.Text.{Piece, elf_text}
+use Rattle.or_elf.specs.LabelText.{labelled_text}
 use Rattle.or_command.specs.Loads.{Load}
 use Rattle.or_command.specs.Writes.{File}
 use Rattle.or_command.specs.Lines.{source_line}
@@ -26,15 +29,20 @@ source_check name (Err refusal) = Some (record { status = 9; line = source_line 
 abbrev pub asm_check : List ℕ → List (List ℕ) → Option FailedCheck
 asm_check source files = source_check source (source_of (only_file files))
 
+-- the file of a source's program, with a symbol for each label or without symbols
+abbrev pub file_text : Bool → List ℕ → List Piece → List ℕ
+file_text false source program = elf_text program
+file_text true source program = labelled_text program (symbols_of (all_labels source) program)
+
 -- the file of the program that a source says
-pub record IsFileOf (source file : List ℕ) : Type 0 where
+pub record IsFileOf (symbols : Bool) (source file : List ℕ) : Type 0 where
   pub program : List Piece
   pub said : source_of source ≡ Ok program
-  pub text : file ≡ elf_text program
+  pub text : file ≡ file_text symbols source program
 
 -- the image is written, and nothing goes to standard output
-pub record AsmWrites (image : List ℕ) (files : List (List ℕ)) (outs : List File) (console : List ℕ) : Type 0 where
+pub record AsmWrites (image : List ℕ) (symbols : Bool) (files : List (List ℕ)) (outs : List File) (console : List ℕ) : Type 0 where
   pub file : List ℕ
-  pub is_file : IsFileOf (only_file files) file
+  pub is_file : IsFileOf symbols (only_file files) file
   pub outputs : outs ≡ record { name = image; text = file } ∷ []
   pub silent : console ≡ []

@@ -1,5 +1,5 @@
 //! The command `asm`.
-ghost use Rattle.std.specs.Prelude.{◌≡◌, ◌≢◌, ◌≤◌, ℕ, List, Result, [], ◌∷◌, IfOk, MatchResult, length};
+ghost use Rattle.std.specs.Prelude.{◌≡◌, ◌≢◌, ◌≤◌, ℕ, true, false, List, Result, [], ◌∷◌, IfOk, MatchResult, length};
 ghost use Rattle.or_words.specs.declared.limits.TheConstants.{IMAGE_LIMIT};
 ghost use Rattle.or_asm_read.specs.declared.fault.Fault.{Fault};
 ghost use Rattle.or_asm.specs.Source.{source_of, Refuses};
@@ -14,7 +14,7 @@ ghost use Rattle.or_command.specs.Answered.{Answers, IsDecided, FinishEnds, Stop
 ghost use Rattle.or_command_source.specs.Assembly.{asm_loads, asm_check, source_check, AsmWrites, only_file, IsFileOf};
 
 use crate::files::{only_file, write_file};
-use or_asm::{AsmFault, assemble};
+use or_asm::{AsmFault, assemble, program_symbols};
 use or_command::{Input, LoadStop, Outcome, Refusal, conclude, load_files};
 use or_host::Host;
 use or_isa::Program;
@@ -27,7 +27,7 @@ use std::alloc::Global;
 #[tactic(auto, using(crate::proofs::Ending::files))]
 pub fn program_file(alloc: Global, source: &[u8]) -> Result<Vec<u8>, AsmFault>
     requires limit { length source.now ≤ SOURCE_LIMIT }
-    ensures file { MatchResult result (λ file. IsFileOf source.now file.items) (λ fault. Refuses fault (source_of source.now)) }
+    ensures file { MatchResult result (λ file. IsFileOf false source.now file.items) (λ fault. Refuses fault (source_of source.now)) }
     ensures small { IfOk result (λ file. length file.items ≤ IMAGE_LIMIT) }
 {
     let mut program = Program {
@@ -38,6 +38,36 @@ pub fn program_file(alloc: Global, source: &[u8]) -> Result<Vec<u8>, AsmFault>
     match or_elf::write(&program, &mut file) {
         Ok(()) => Ok(file),
         Err(_) => Err(AsmFault::NoMemory),
+    }
+}
+
+// The same with a symbol for each label.
+fn labelled_file(alloc: Global, source: &[u8]) -> Result<Vec<u8>, AsmFault>
+    requires limit { length source.now ≤ SOURCE_LIMIT }
+    ensures { MatchResult result (λ file. IsFileOf true source.now file.items) (λ fault. Refuses fault (source_of source.now)) }
+{
+    let mut program = Program {
+        pieces: Vec::new(alloc),
+    };
+    assemble(alloc, source, &mut program)?;
+    let Ok(labels) = program_symbols(alloc, source, &program) else {
+        return Err(AsmFault::NoMemory);
+    };
+    let mut file = Vec::new(alloc);
+    match or_elf::write_labelled(&program, labels.as_slice(), &mut file) {
+        Ok(()) => Ok(file),
+        Err(_) => Err(AsmFault::NoMemory),
+    }
+}
+
+fn file_of(alloc: Global, source: &[u8], symbols: bool) -> Result<Vec<u8>, AsmFault>
+    requires limit { length source.now ≤ SOURCE_LIMIT }
+    ensures { MatchResult result (λ file. IsFileOf symbols source.now file.items) (λ fault. Refuses fault (source_of source.now)) }
+{
+    if symbols {
+        labelled_file(alloc, source)
+    } else {
+        program_file(alloc, source)
     }
 }
 
@@ -60,15 +90,16 @@ fn finish<'a, H: Host>(
     alloc: Global,
     source: &'a str,
     image: &'a str,
+    symbols: bool,
     files: &[Vec<u8>],
     host: &mut H,
 ) -> Outcome<'a>
     requires names { IsAssembly source.now image.now }
     requires limit { length (only_file (bytes_of files.now)) ≤ SOURCE_LIMIT }
-    ensures outcome { FinishEnds (asm_check source.now) (AsmWrites image.now) (bytes_of files.now) (end_of result) (H.state host.old) (H.state host.new) }
+    ensures outcome { FinishEnds (asm_check source.now) (AsmWrites image.now symbols) (bytes_of files.now) (end_of result) (H.state host.old) (H.state host.new) }
     ensures silent { Silent (H.state host.old) (H.state host.new) }
 {
-    match program_file(alloc, only_file(files)) {
+    match file_of(alloc, only_file(files), symbols) {
         Ok(file) => write_file(image, &file, host),
         Err(fault) => refuse_source(source, fault),
     }
@@ -79,10 +110,11 @@ fn assembled<'a, H: Host>(
     alloc: Global,
     source: &'a str,
     image: &'a str,
+    symbols: bool,
     host: &mut H,
 ) -> Outcome<'a>
     requires names { IsAssembly source.now image.now }
-    ensures outcome { CommandOutcome (asm_loads source.now) (asm_check source.now) (AsmWrites image.now) LeavesAll (end_of result) (H.state host.old) (H.state host.new) }
+    ensures outcome { CommandOutcome (asm_loads source.now) (asm_check source.now) (AsmWrites image.now symbols) LeavesAll (end_of result) (H.state host.old) (H.state host.new) }
     ensures silent { Silent (H.state host.old) (H.state host.new) }
 {
     let mut files = Vec::new(alloc);
@@ -91,23 +123,30 @@ fn assembled<'a, H: Host>(
         limit: SOURCE_LIMIT,
     };
     match load_files(alloc, host, &[input], &mut files) {
-        Ok(()) => finish(alloc, source, image, files.as_slice(), host),
+        Ok(()) => finish(alloc, source, image, symbols, files.as_slice(), host),
         Err(LoadStop::Unread(name)) => Outcome::Unread(name),
         Err(LoadStop::TooLong(name, limit)) => Outcome::TooLong(name, limit),
         Err(LoadStop::NoMemory) => Outcome::NoMemory,
     }
 }
 
-/// Assembles a source of at most 4 MiB, writes the ELF file of its program to the image, and says how that ended.
+/// Assembles a source of at most 4 MiB, writes the ELF file of its program, with a symbol for each label where they are
+/// wanted, to the image, and says how that ended.
 ///
 /// Status: 0 all was done, 5 the source was not read, 6 the image was not written, 7 no memory, 8 the source is too long,
 /// 9 the source has a fault. After 5, 7, 8 and 9 nothing is written or created.
-pub fn asm<H: Host>(alloc: Global, source: &str, image: &str, host: &mut H) -> u8
+pub fn asm<H: Host>(
+    alloc: Global,
+    source: &str,
+    image: &str,
+    symbols: bool,
+    host: &mut H,
+) -> u8
     requires names { IsAssembly source.now image.now }
-    ensures ends { Answers (asm_loads source.now) (asm_check source.now) (AsmWrites image.now) LeavesAll result (H.state host.old) (H.state host.new) }
-    ensures decided { IsDecided (asm_loads source.now) (asm_check source.now) (AsmWrites image.now) LeavesAll result (H.state host.old) (H.state host.new) }
+    ensures ends { Answers (asm_loads source.now) (asm_check source.now) (AsmWrites image.now symbols) LeavesAll result (H.state host.old) (H.state host.new) }
+    ensures decided { IsDecided (asm_loads source.now) (asm_check source.now) (AsmWrites image.now symbols) LeavesAll result (H.state host.old) (H.state host.new) }
     ensures command { result ≢ 2 }
 {
-    let outcome = assembled(alloc, source, image, host);
+    let outcome = assembled(alloc, source, image, symbols, host);
     conclude(host, outcome)
 }

@@ -10,3 +10,4 @@ pub mod WrittenHeaders
 pub mod WrittenFault
 pub mod WrittenPlaces
 pub mod WrittenSizes
+pub mod LabelSizes

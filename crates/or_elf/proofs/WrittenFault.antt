@@ -8,7 +8,7 @@ use Rattle.or_elf.specs.declared.fault.ElfFault.{ElfFault}
 use Rattle.or_elf.specs.declared.fault.ElfFault.TheVariants.{Short, BadHeader}
 use Rattle.or_elf.specs.Header.{half_at, word_at, table_start, header_count, header_start, segments_among, segments}
 use Rattle.or_elf.specs.Fault.{or_else, length_fault, ident_fault, field_fault, header_fault, segment_fault, first_segment_fault, segments_fault, elf_fault}
-use Rattle.or_elf.specs.Text.{Piece, piece_size, word_count, elf_header, program_headers, pieces_text, elf_text, words_text}
+use Rattle.or_elf.specs.Text.{Piece, piece_size, word_count, no_sections, elf_header, program_headers, pieces_text, program_text, elf_text, words_text}
 use Rattle.or_elf.specs.Loading.{IsLoadable}
 use Rattle.or_elf.proofs.WrittenWords.{length-words_text}
 use Rattle.or_elf.proofs.WrittenHeaders.{length-elf_header, ident_written, type_written, machine_written, version_written, header_size_written, entry_size_written, count_written, start_written, length-program_headers, segments_of, segment_of, segments_written}
@@ -27,44 +27,44 @@ length-pieces_text (piece ∷ others) =
 pub behind_header : List Piece → List ℕ
 behind_header program = program_headers (52 + 32 * length program) program ++ pieces_text program
 
-pub elf_text_parts : (program : List Piece) → elf_text program ≡ elf_header (length program) ++ behind_header program
-unfolding elf_text behind_header
-elf_text_parts program = append_assoc (elf_header (length program)) (program_headers (52 + 32 * length program) program) (pieces_text program)
+pub elf_text_parts : (program : List Piece) → elf_text program ≡ elf_header (length program) no_sections ++ behind_header program
+unfolding program_text behind_header
+elf_text_parts program = append_assoc (elf_header (length program) no_sections) (program_headers (52 + 32 * length program) program) (pieces_text program)
 
 pub length-elf_text : (program : List Piece) → length (elf_text program) ≡ 52 + 32 * length program + 4 * word_count program
-unfolding elf_text
+unfolding program_text
 length-elf_text program =
     let headers : List ℕ = program_headers (52 + 32 * length program) program in
-    let front : length (elf_header (length program) ++ headers) ≡ 52 + 32 * length program =
-    length-append (elf_header (length program)) headers
-    ∙ omega (arith, length-elf_header (length program), length-program_headers (52 + 32 * length program) program) in
-    length-append (elf_header (length program) ++ headers) (pieces_text program) ∙ omega (arith, front, length-pieces_text program)
+    let front : length (elf_header (length program) no_sections ++ headers) ≡ 52 + 32 * length program =
+    length-append (elf_header (length program) no_sections) headers
+    ∙ omega (arith, length-elf_header (length program) no_sections, length-program_headers (52 + 32 * length program) program) in
+    length-append (elf_header (length program) no_sections ++ headers) (pieces_text program) ∙ omega (arith, front, length-pieces_text program)
 
 pub pieces_stand : (program : List Piece) → drop (52 + 32 * length program) (elf_text program) ≡ pieces_text program
-unfolding elf_text
+unfolding program_text
 pieces_stand program =
     let headers : List ℕ = program_headers (52 + 32 * length program) program in
-    let front : length (elf_header (length program) ++ headers) ≡ 52 + 32 * length program =
-    length-append (elf_header (length program)) headers
-    ∙ omega (arith, length-elf_header (length program), length-program_headers (52 + 32 * length program) program) in
-    ap (λ n. drop n (elf_text program)) (sym front) ∙ drop-append_seam (elf_header (length program) ++ headers) (pieces_text program)
+    let front : length (elf_header (length program) no_sections ++ headers) ≡ 52 + 32 * length program =
+    length-append (elf_header (length program) no_sections) headers
+    ∙ omega (arith, length-elf_header (length program) no_sections, length-program_headers (52 + 32 * length program) program) in
+    ap (λ n. drop n (elf_text program)) (sym front) ∙ drop-append_seam (elf_header (length program) no_sections ++ headers) (pieces_text program)
 
 -- the fields of the file
 
 count_read : (program : List Piece) → length program ≤ 64 → header_count (elf_text program) ≡ length program
-count_read program few = ap (λ text. half_at text 44) (elf_text_parts program) ∙ count_written (length program) (behind_header program) few
+count_read program few = ap (λ text. half_at text 44) (elf_text_parts program) ∙ count_written (length program) no_sections (behind_header program) few
 
 start_read : (program : List Piece) → 0 < length program → table_start (elf_text program) ≡ 52
-start_read program some = ap (λ text. word_at text 28) (elf_text_parts program) ∙ start_written (length program) (behind_header program) some
+start_read program some = ap (λ text. word_at text 28) (elf_text_parts program) ∙ start_written (length program) no_sections (behind_header program) some
 
 headers_stand : (program : List Piece) → 0 < length program
     → drop (header_start (elf_text program) 0) (elf_text program) ≡ program_headers (52 + 32 * length program) program ++ pieces_text program
 unfolding behind_header
 headers_stand program some =
     let start : table_start (elf_text program) ≡ 52 = start_read program some in
-    let front : header_start (elf_text program) 0 ≡ length (elf_header (length program)) = omega (arith, length-elf_header (length program)) in
-    ap (λ n. drop n (elf_text program)) front ∙ ap (drop (length (elf_header (length program)))) (elf_text_parts program)
-    ∙ drop-append_seam (elf_header (length program)) (behind_header program)
+    let front : header_start (elf_text program) 0 ≡ length (elf_header (length program) no_sections) = omega (arith, length-elf_header (length program) no_sections) in
+    ap (λ n. drop n (elf_text program)) front ∙ ap (drop (length (elf_header (length program) no_sections))) (elf_text_parts program)
+    ∙ drop-append_seam (elf_header (length program) no_sections) (behind_header program)
 
 -- the segments are those of the pieces
 pub segments_read : (ram : ℕ) (program : List Piece) → ram < 2 ^ 32 → IsLoadable ram program
@@ -92,11 +92,11 @@ header_right program few =
     let parts = elf_text_parts program in
     let count = length program in
     let rest = behind_header program in
-    none_then _ _ (field_right 16 _ 2 (ap (λ text. half_at text 16) parts ∙ type_written count rest))
-    (none_then _ _ (field_right 18 _ 92 (ap (λ text. half_at text 18) parts ∙ machine_written count rest))
-    (none_then _ _ (field_right 20 _ 1 (ap (λ text. word_at text 20) parts ∙ version_written count rest))
-    (none_then _ _ (field_right 40 _ 52 (ap (λ text. half_at text 40) parts ∙ header_size_written count rest))
-    (none_then _ _ (field_right 42 _ 32 (ap (λ text. half_at text 42) parts ∙ entry_size_written count rest))
+    none_then _ _ (field_right 16 _ 2 (ap (λ text. half_at text 16) parts ∙ type_written count no_sections rest))
+    (none_then _ _ (field_right 18 _ 92 (ap (λ text. half_at text 18) parts ∙ machine_written count no_sections rest))
+    (none_then _ _ (field_right 20 _ 1 (ap (λ text. word_at text 20) parts ∙ version_written count no_sections rest))
+    (none_then _ _ (field_right 40 _ 52 (ap (λ text. half_at text 40) parts ∙ header_size_written count no_sections rest))
+    (none_then _ _ (field_right 42 _ 32 (ap (λ text. half_at text 42) parts ∙ entry_size_written count no_sections rest))
     (few_right (header_count (elf_text program)) (omega (arith, count_read program few)))))))
 
 length_right : (bytes : List ℕ) → 52 ≤ length bytes → length_fault bytes ≡ None
@@ -132,7 +132,7 @@ no_fault program ram small fits =
     let count : header_count (elf_text program) ≡ length program = count_read program fits.few in
     let few : length program ≤ 64 = fits.few in
     none_then _ _ (length_right (elf_text program) (omega arith))
-    (none_then _ _ (ap ident_fault (elf_text_parts program) ∙ ident_written (length program) (behind_header program))
+    (none_then _ _ (ap ident_fault (elf_text_parts program) ∙ ident_written (length program) no_sections (behind_header program))
     (none_then _ _ (header_right program few)
     (none_then _ _ (table_right (table_start (elf_text program)) (header_count (elf_text program)) (length (elf_text program)) (omega arith))
     (ap (segments_fault (length (elf_text program)) ram) (segments_read ram program small fits)

@@ -8,6 +8,7 @@ use Rattle.byteorder.specs.Numbers.{big_number-reads_back}
 use Rattle.or_elf.specs.declared.segment.Segment.{Segment}
 use Rattle.or_elf.specs.Header.{half_at, word_at, header_start, is_load, segment_at, segments_among}
 use Rattle.or_elf.specs.Fault.{ident_fault}
+use Rattle.or_elf.specs.declared.writer.SectionHeaders.{SectionHeaders}
 use Rattle.or_elf.specs.Text.{Piece, piece_size, word_count, words_text, halves_text, ident, headers_start, elf_header, program_header, program_headers}
 use Rattle.or_elf.proofs.WrittenWords.{word_at-add, word_at-words}
 use Rattle.std.proofs.Math.Seq.{drop-append_seam}
@@ -15,46 +16,46 @@ use Rattle.or_elf.proofs.LoadsAlike.{segments_among-suc}
 
 -- the ELF header
 
-pub length-elf_header : (count : ℕ) → length (elf_header count) ≡ 52
+pub length-elf_header : (count : ℕ) (sections : SectionHeaders) → length (elf_header count sections) ≡ 52
 unfolding elf_header ident halves_text words_text
-length-elf_header count = refl
+length-elf_header count sections = refl
 
-pub ident_written : (count : ℕ) (rest : List ℕ) → ident_fault (elf_header count ++ rest) ≡ None
+pub ident_written : (count : ℕ) (sections : SectionHeaders) (rest : List ℕ) → ident_fault (elf_header count sections ++ rest) ≡ None
 unfolding elf_header ident halves_text words_text
-ident_written count rest = refl
+ident_written count sections rest = refl
 
-pub type_written : (count : ℕ) (rest : List ℕ) → half_at (elf_header count ++ rest) 16 ≡ 2
+pub type_written : (count : ℕ) (sections : SectionHeaders) (rest : List ℕ) → half_at (elf_header count sections ++ rest) 16 ≡ 2
 unfolding half_at elf_header ident halves_text words_text
-type_written count rest = refl
+type_written count sections rest = refl
 
-pub machine_written : (count : ℕ) (rest : List ℕ) → half_at (elf_header count ++ rest) 18 ≡ 92
+pub machine_written : (count : ℕ) (sections : SectionHeaders) (rest : List ℕ) → half_at (elf_header count sections ++ rest) 18 ≡ 92
 unfolding half_at elf_header ident halves_text words_text
-machine_written count rest = refl
+machine_written count sections rest = refl
 
-pub version_written : (count : ℕ) (rest : List ℕ) → word_at (elf_header count ++ rest) 20 ≡ 1
+pub version_written : (count : ℕ) (sections : SectionHeaders) (rest : List ℕ) → word_at (elf_header count sections ++ rest) 20 ≡ 1
 unfolding word_at elf_header ident halves_text words_text
-version_written count rest = refl
+version_written count sections rest = refl
 
-pub header_size_written : (count : ℕ) (rest : List ℕ) → half_at (elf_header count ++ rest) 40 ≡ 52
+pub header_size_written : (count : ℕ) (sections : SectionHeaders) (rest : List ℕ) → half_at (elf_header count sections ++ rest) 40 ≡ 52
 unfolding half_at elf_header ident halves_text words_text
-header_size_written count rest = refl
+header_size_written count sections rest = refl
 
-pub entry_size_written : (count : ℕ) (rest : List ℕ) → half_at (elf_header count ++ rest) 42 ≡ 32
+pub entry_size_written : (count : ℕ) (sections : SectionHeaders) (rest : List ℕ) → half_at (elf_header count sections ++ rest) 42 ≡ 32
 unfolding half_at elf_header ident halves_text words_text
-entry_size_written count rest = refl
+entry_size_written count sections rest = refl
 
-pub count_written : (count : ℕ) (rest : List ℕ) → count ≤ 64 → half_at (elf_header count ++ rest) 44 ≡ count
+pub count_written : (count : ℕ) (sections : SectionHeaders) (rest : List ℕ) → count ≤ 64 → half_at (elf_header count sections ++ rest) 44 ≡ count
 unfolding half_at elf_header ident halves_text words_text
-count_written count rest few = big_number-reads_back 2 count (drop 46 (elf_header count ++ rest)) (omega arith)
+count_written count sections rest few = big_number-reads_back 2 count (drop 46 (elf_header count sections ++ rest)) (omega arith)
 
 headers_start_some : (count : ℕ) → 0 < count → headers_start count ≡ 52
 headers_start_some count some = grind (arith, nat_tests)
 
-pub start_written : (count : ℕ) (rest : List ℕ) → 0 < count → word_at (elf_header count ++ rest) 28 ≡ 52
+pub start_written : (count : ℕ) (sections : SectionHeaders) (rest : List ℕ) → 0 < count → word_at (elf_header count sections ++ rest) 28 ≡ 52
 unfolding word_at elf_header ident halves_text words_text
-start_written count rest some =
+start_written count sections rest some =
     let e : headers_start count ≡ 52 = headers_start_some count some in
-    big_number-reads_back 4 (headers_start count) (drop 32 (elf_header count ++ rest)) (omega arith) ∙ e
+    big_number-reads_back 4 (headers_start count) (drop 32 (elf_header count sections ++ rest)) (omega arith) ∙ e
 
 -- the program headers
 

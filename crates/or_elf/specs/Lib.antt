@@ -3,5 +3,6 @@ pub mod Image
 pub mod Fault
 pub mod Placed
 pub mod Text
+pub mod LabelText
 pub mod Loading
 pub mod Symbols

@@ -2,6 +2,7 @@
 use Rattle.std.specs.Prelude.{ℕ, ◌+◌, ◌*◌, ◌==◌, List, [], ◌∷◌, ◌++◌, length, if◌then◌else◌}
 use Rattle.std.specs.List.{flat_map, sum_by}
 use Rattle.byteorder.specs.Endian.{big_bytes}
+use Rattle.or_elf.specs.declared.writer.SectionHeaders.{SectionHeaders}
 
 -- a piece of a program: the address of its first word, and its words
 abbrev pub Piece : Type 0
@@ -29,11 +30,15 @@ ident = 0x7F ∷ 0x45 ∷ 0x4C ∷ 0x46 ∷ 1 ∷ 2 ∷ 1 ∷ 0 ∷ 0 ∷ 0 ∷ 
 abbrev pub headers_start : ℕ → ℕ
 headers_start count = if count == 0 then 0 else 52
 
--- the ELF header of a file with so many program headers: an executable for OpenRISC that is entered at 100
-unfoldable pub elf_header : ℕ → List ℕ
-elf_header count =
-    ident ++ halves_text (2 ∷ 92 ∷ []) ++ words_text (1 ∷ 0x100 ∷ headers_start count ∷ 0 ∷ 0 ∷ [])
-    ++ halves_text (52 ∷ 32 ∷ count ∷ 0 ∷ 0 ∷ 0 ∷ [])
+abbrev pub no_sections : SectionHeaders
+no_sections = record { start = 0; entry_size = 0; count = 0; names = 0 }
+
+-- the ELF header of a file with so many program headers and these section headers: an executable for OpenRISC that is
+-- entered at 100
+unfoldable pub elf_header : ℕ → SectionHeaders → List ℕ
+elf_header count sections =
+    ident ++ halves_text (2 ∷ 92 ∷ []) ++ words_text (1 ∷ 0x100 ∷ headers_start count ∷ sections.start ∷ 0 ∷ [])
+    ++ halves_text (52 ∷ 32 ∷ count ∷ sections.entry_size ∷ sections.count ∷ sections.names ∷ [])
 
 -- the header of a segment that is to be loaded, to be read, written and executed, at multiples of four
 unfoldable pub program_header : ℕ → ℕ → ℕ → List ℕ
@@ -49,7 +54,11 @@ program_headers offset (piece ∷ others) =
 unfoldable pub pieces_text : List Piece → List ℕ
 pieces_text program = flat_map (λ piece. words_text piece.1) program
 
+-- the headers of a program and its words, in a file with these section headers
+unfoldable pub program_text : SectionHeaders → List Piece → List ℕ
+program_text sections program =
+    elf_header (length program) sections ++ program_headers (52 + 32 * length program) program ++ pieces_text program
+
 -- the file of a program
-unfoldable pub elf_text : List Piece → List ℕ
-elf_text program =
-    elf_header (length program) ++ program_headers (52 + 32 * length program) program ++ pieces_text program
+abbrev pub elf_text : List Piece → List ℕ
+elf_text program = program_text no_sections program

@@ -4,6 +4,7 @@
 mod fault;
 mod fields;
 mod image;
+mod label_writer;
 pub mod laws;
 mod reader;
 mod sections;
@@ -14,6 +15,7 @@ mod writer;
 
 pub use fault::ElfFault;
 pub use image::Image;
+pub use label_writer::{Label, write_labelled};
 pub use reader::read;
 pub use segment::Segment;
 pub use symbol_fault::SymFault;

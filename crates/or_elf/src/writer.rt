@@ -1,12 +1,32 @@
 // Writes the file of a program.
 ghost use Rattle.std.specs.Prelude.{◌≡◌, ◌≤◌, ◌<◌, ◌+◌, ◌*◌, ◌^◌, [], ◌++◌, length, OnOk, OnErr, vec_capacity, vec_len};
 ghost use Rattle.byteorder.specs.Endian.{big_bytes};
-ghost use Rattle.or_elf.specs.Text.{word_count, words_text, halves_text, ident, elf_header, headers_start, program_header, program_headers, pieces_text, elf_text};
+ghost use Rattle.or_elf.specs.Text.{word_count, words_text, halves_text, ident, no_sections, elf_header, headers_start, program_header, program_headers, pieces_text, program_text, elf_text};
 
 use byteorder::{BigEndian, ByteOrder};
 use or_isa::{Piece, Program};
 use or_words::NoMemory;
 use std::alloc::AllocError;
+
+/// The section headers of a file, as its ELF header has them.
+#[derive(Clone, Copy)]
+pub(crate) struct SectionHeaders {
+    /// `e_shoff`: where they start.
+    pub(crate) start: u32,
+    /// `e_shentsize`: how many bytes each has.
+    pub(crate) entry_size: u16,
+    /// `e_shnum`: how many there are.
+    pub(crate) count: u16,
+    /// `e_shstrndx`: the one of the sections' names.
+    pub(crate) names: u16,
+}
+
+const NO_SECTIONS: SectionHeaders = SectionHeaders {
+    start: 0,
+    entry_size: 0,
+    count: 0,
+    names: 0,
+};
 
 /// Writes the ELF file of a program (ELF gABI, "ELF Header" and "Program Header"): an executable for OpenRISC that is
 /// entered at 00000100, with a segment for each piece, at the piece's place. `out` is empty before, and again after
@@ -19,7 +39,7 @@ pub fn write(program: &Program, out: &mut Vec<u8>) -> Result<(), NoMemory>
     ensures no_memory { OnErr result (out.new.items ≡ []) }
     ensures full { OnErr result (vec_capacity out.old < length (elf_text program.now)) }
 {
-    match append_file(&program.pieces, out) {
+    match append_program(&program.pieces, NO_SECTIONS, out) {
         Ok(()) => Ok(()),
         Err(_) => {
             out.clear();
@@ -28,29 +48,41 @@ pub fn write(program: &Program, out: &mut Vec<u8>) -> Result<(), NoMemory>
     }
 }
 
-#[tactic(auto, unfolding(crate::specs::Text::elf_text))]
-fn append_file(pieces: &[Piece], out: &mut Vec<u8>) -> Result<(), AllocError>
+/// Appends the headers and the words of a program, in a file with these section headers.
+#[tactic(auto, unfolding(crate::specs::Text::program_text))]
+pub(crate) fn append_program(pieces: &[Piece], sections: SectionHeaders, out: &mut Vec<u8>) -> Result<(), AllocError>
     requires empty { out.old.items ≡ [] }
     requires pieces { length pieces.now ≤ 64 }
     requires words { word_count pieces.now ≤ 16000000 }
-    ensures text { OnOk result (out.new.items ≡ elf_text pieces.now) }
-    ensures full { OnErr result (vec_capacity out.old < length (elf_text pieces.now)) }
+    ensures text { OnOk result (out.new.items ≡ program_text sections pieces.now) }
+    ensures full { OnErr result (vec_capacity out.old < length (program_text sections pieces.now)) }
+    ensures capacity { vec_capacity out.old ≤ vec_capacity out.new }
 {
-    append_elf_header(pieces.len() as u16, out)?;
+    append_elf_header(pieces.len() as u16, sections, out)?;
     append_program_headers(pieces, 52 + 32 * pieces.len() as u32, out)?;
     append_pieces(pieces, out)
 }
 
 #[tactic(auto, unfolding(crate::specs::Text::elf_header))]
-fn append_elf_header(count: u16, out: &mut Vec<u8>) -> Result<(), AllocError>
-    ensures text { OnOk result (out.new.items ≡ out.old.items ++ elf_header count) }
-    ensures full { OnErr result (vec_capacity out.old < vec_len out.old + length (elf_header count)) }
+fn append_elf_header(count: u16, sections: SectionHeaders, out: &mut Vec<u8>) -> Result<(), AllocError>
+    ensures text { OnOk result (out.new.items ≡ out.old.items ++ elf_header count sections) }
+    ensures full { OnErr result (vec_capacity out.old < vec_len out.old + length (elf_header count sections)) }
     ensures capacity { vec_capacity out.old ≤ vec_capacity out.new }
 {
     append_ident(out)?;
     append_halves(&[2, 92], out)?;
-    append_words(&[1, 0x100, headers_start(count), 0, 0], out)?;
-    append_halves(&[52, 32, count, 0, 0, 0], out)
+    append_words(&[1, 0x100, headers_start(count), sections.start, 0], out)?;
+    append_halves(
+        &[
+            52,
+            32,
+            count,
+            sections.entry_size,
+            sections.count,
+            sections.names,
+        ],
+        out,
+    )
 }
 
 #[tactic(auto, unfolding(crate::specs::Text::ident))]
@@ -123,7 +155,7 @@ fn append_pieces(pieces: &[Piece], out: &mut Vec<u8>) -> Result<(), AllocError>
 }
 
 #[tactic(auto, unfolding(crate::specs::Text::words_text))]
-fn append_words(words: &[u32], out: &mut Vec<u8>) -> Result<(), AllocError>
+pub(crate) fn append_words(words: &[u32], out: &mut Vec<u8>) -> Result<(), AllocError>
     ensures text { OnOk result (out.new.items ≡ out.old.items ++ words_text words.now) }
     ensures full { OnErr result (vec_capacity out.old < vec_len out.old + length (words_text words.now)) }
     ensures capacity { vec_capacity out.old ≤ vec_capacity out.new }
@@ -137,7 +169,7 @@ fn append_words(words: &[u32], out: &mut Vec<u8>) -> Result<(), AllocError>
 }
 
 #[tactic(auto, unfolding(crate::specs::Text::halves_text))]
-fn append_halves(halves: &[u16], out: &mut Vec<u8>) -> Result<(), AllocError>
+pub(crate) fn append_halves(halves: &[u16], out: &mut Vec<u8>) -> Result<(), AllocError>
     ensures text { OnOk result (out.new.items ≡ out.old.items ++ halves_text halves.now) }
     ensures full { OnErr result (vec_capacity out.old < vec_len out.old + length (halves_text halves.now)) }
     ensures capacity { vec_capacity out.old ≤ vec_capacity out.new }
