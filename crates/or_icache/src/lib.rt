@@ -159,6 +159,3 @@ impl ICache {
         }
     }
 }
-
-#[cfg(test)]
-mod tests;
