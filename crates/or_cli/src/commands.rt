@@ -197,11 +197,13 @@ pub fn top_alone<H: Host>(alloc: Global, words: &[String], host: &mut H) -> u8
 {
     match parse(words) {
         Some(Command::Replay { files, report }) => replay_command(alloc, &files, report, host),
-        Some(Command::Asm {
-            source,
-            image,
-            symbols,
-        }) => asm(alloc, source, image, symbols, host),
+        Some(
+            Command::Asm {
+                source,
+                image,
+                symbols,
+            },
+        ) => asm(alloc, source, image, symbols, host),
         Some(Command::Dis { image }) => dis(alloc, image, host),
         Some(Command::Debug { files, script }) => debug_command(alloc, &files, script, host),
         Some(Command::Gen { workload, source }) => generate(alloc, &workload, source, host),

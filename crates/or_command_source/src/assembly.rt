@@ -1,9 +1,9 @@
 //! The command `asm`.
-ghost use Rattle.std.specs.Prelude.{◌≡◌, ◌≢◌, ◌≤◌, ℕ, true, false, List, Result, [], ◌∷◌, IfOk, MatchResult, length};
+ghost use Rattle.std.specs.Prelude.{◌≡◌, ◌≢◌, ◌≤◌, ℕ, true, false, List, Result, Ok, [], ◌∷◌, IfOk, MatchResult, length};
 ghost use Rattle.or_words.specs.declared.limits.TheConstants.{IMAGE_LIMIT};
 ghost use Rattle.or_asm_read.specs.declared.fault.Fault.{Fault};
 ghost use Rattle.or_asm.specs.Source.{source_of, Refuses};
-ghost use Rattle.or_elf.specs.Text.{Piece};
+ghost use Rattle.or_elf.specs.Text.{Piece, word_count};
 ghost use Rattle.or_host.specs.Calls.{IsName};
 ghost use Rattle.or_command_line.specs.Names.{IsAssembly};
 ghost use Rattle.or_command.specs.Leaves.{Silent};
@@ -21,6 +21,20 @@ use or_isa::Program;
 use or_words::limits::SOURCE_LIMIT;
 use std::alloc::Global;
 
+// The program of a source.
+fn program(alloc: Global, source: &[u8]) -> Result<Program, AsmFault>
+    requires limit { length source.now ≤ SOURCE_LIMIT }
+    ensures said { MatchResult result (λ program. source_of source.now ≡ Ok program) (λ fault. Refuses fault (source_of source.now)) }
+    ensures few { IfOk result (λ program. length program ≤ 64) }
+    ensures short { IfOk result (λ program. word_count program ≤ 16000000) }
+{
+    let mut program = Program {
+        pieces: Vec::new(alloc),
+    };
+    assemble(alloc, source, &mut program)?;
+    Ok(program)
+}
+
 /// The ELF file of the program of a source of at most 4 MiB, which has at most 64 MiB.
 ///
 /// Errors: the least fault of the source's first faulty line; NoMemory.
@@ -30,10 +44,7 @@ pub fn program_file(alloc: Global, source: &[u8]) -> Result<Vec<u8>, AsmFault>
     ensures file { MatchResult result (λ file. IsFileOf false source.now file.items) (λ fault. Refuses fault (source_of source.now)) }
     ensures small { IfOk result (λ file. length file.items ≤ IMAGE_LIMIT) }
 {
-    let mut program = Program {
-        pieces: Vec::new(alloc),
-    };
-    assemble(alloc, source, &mut program)?;
+    let program = program(alloc, source)?;
     let mut file = Vec::new(alloc);
     match or_elf::write(&program, &mut file) {
         Ok(()) => Ok(file),
@@ -46,10 +57,7 @@ fn labelled_file(alloc: Global, source: &[u8]) -> Result<Vec<u8>, AsmFault>
     requires limit { length source.now ≤ SOURCE_LIMIT }
     ensures { MatchResult result (λ file. IsFileOf true source.now file.items) (λ fault. Refuses fault (source_of source.now)) }
 {
-    let mut program = Program {
-        pieces: Vec::new(alloc),
-    };
-    assemble(alloc, source, &mut program)?;
+    let program = program(alloc, source)?;
     let Ok(labels) = program_symbols(alloc, source, &program) else {
         return Err(AsmFault::NoMemory);
     };
@@ -135,13 +143,7 @@ fn assembled<'a, H: Host>(
 ///
 /// Status: 0 all was done, 5 the source was not read, 6 the image was not written, 7 no memory, 8 the source is too long,
 /// 9 the source has a fault. After 5, 7, 8 and 9 nothing is written or created.
-pub fn asm<H: Host>(
-    alloc: Global,
-    source: &str,
-    image: &str,
-    symbols: bool,
-    host: &mut H,
-) -> u8
+pub fn asm<H: Host>(alloc: Global, source: &str, image: &str, symbols: bool, host: &mut H) -> u8
     requires names { IsAssembly source.now image.now }
     ensures ends { Answers (asm_loads source.now) (asm_check source.now) (AsmWrites image.now symbols) LeavesAll result (H.state host.old) (H.state host.new) }
     ensures decided { IsDecided (asm_loads source.now) (asm_check source.now) (AsmWrites image.now symbols) LeavesAll result (H.state host.old) (H.state host.new) }

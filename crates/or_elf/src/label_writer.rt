@@ -54,11 +54,7 @@ pub fn write_labelled(
 }
 
 #[tactic(auto, unfolding(crate::specs::LabelText::labelled_text, crate::specs::LabelText::sections_text), using(crate::proofs::LabelSizes::few_labels))]
-fn append_file(
-    pieces: &[Piece],
-    labels: &[Label<'_>],
-    out: &mut Vec<u8>,
-) -> Result<(), AllocError>
+fn append_file(pieces: &[Piece], labels: &[Label<'_>], out: &mut Vec<u8>) -> Result<(), AllocError>
     requires empty { out.old.items ≡ [] }
     requires pieces { length pieces.now ≤ 64 }
     requires words { word_count pieces.now ≤ 16000000 }
@@ -71,7 +67,11 @@ fn append_file(
     let strings = table + table_size;
     let strings_size = strings_size(labels);
     let padding = (4 - strings_size % 4) % 4;
-    append_program(pieces, three_sections(strings + strings_size + padding), out)?;
+    append_program(
+        pieces,
+        three_sections(strings + strings_size + padding),
+        out,
+    )?;
     append_symbol_table(labels, out)?;
     append_strings(labels, out)?;
     out.resize(out.len() + padding as usize, 0)?;

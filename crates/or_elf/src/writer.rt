@@ -50,7 +50,11 @@ pub fn write(program: &Program, out: &mut Vec<u8>) -> Result<(), NoMemory>
 
 /// Appends the headers and the words of a program, in a file with these section headers.
 #[tactic(auto, unfolding(crate::specs::Text::program_text))]
-pub(crate) fn append_program(pieces: &[Piece], sections: SectionHeaders, out: &mut Vec<u8>) -> Result<(), AllocError>
+pub(crate) fn append_program(
+    pieces: &[Piece],
+    sections: SectionHeaders,
+    out: &mut Vec<u8>,
+) -> Result<(), AllocError>
     requires empty { out.old.items ≡ [] }
     requires pieces { length pieces.now ≤ 64 }
     requires words { word_count pieces.now ≤ 16000000 }
@@ -64,7 +68,11 @@ pub(crate) fn append_program(pieces: &[Piece], sections: SectionHeaders, out: &m
 }
 
 #[tactic(auto, unfolding(crate::specs::Text::elf_header))]
-fn append_elf_header(count: u16, sections: SectionHeaders, out: &mut Vec<u8>) -> Result<(), AllocError>
+fn append_elf_header(
+    count: u16,
+    sections: SectionHeaders,
+    out: &mut Vec<u8>,
+) -> Result<(), AllocError>
     ensures text { OnOk result (out.new.items ≡ out.old.items ++ elf_header count sections) }
     ensures full { OnErr result (vec_capacity out.old < vec_len out.old + length (elf_header count sections)) }
     ensures capacity { vec_capacity out.old ≤ vec_capacity out.new }
