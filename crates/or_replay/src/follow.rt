@@ -1,8 +1,10 @@
 //! Following a schedule, with the marks that were kept of it.
-ghost use Rattle.std.specs.Prelude.{◌≡◌, ◌≤◌, ◌<◌, ◌/◌, ◌+◌, ◌⊎◌, [], ℕ, List, Some, None, MatchOption, MatchResult, IfSome, length, true};
-ghost use Rattle.or_model.specs.Turn.{Board as BoardModel};
+ghost use Rattle.std.specs.Prelude.{◌≡◌, ◌≤◌, ◌<◌, ◌/◌, ◌+◌, ◌⊎◌, [], ℕ, List, Some, None, MatchOption, MatchResult, IfSome, OnOk, OnErr, length, slice_index, true};
+ghost use Rattle.or_bus.specs.State.{BusState};
+ghost use Rattle.or_model.specs.Core.{Core as CoreModel};
+ghost use Rattle.or_model.specs.Turn.{Board as BoardModel, board_turned};
 ghost use Rattle.or_sched.specs.declared.recording.Mark.{Mark as MarkModel};
-ghost use Rattle.or_replay.specs.Board.{IsBoard, RunsAt, all_stopped};
+ghost use Rattle.or_replay.specs.Board.{IsBoard, IsTurned, RefusedBy, RunsAt, all_stopped};
 ghost use Rattle.or_replay.specs.Following.{IsFollowed, IsFollowable, IsLed, IsAdvanced, IsCompared, IsFirstRunning, AreStopped, AreStoppedUpTo, TellsOf, Differs};
 
 use crate::board::{Board, Refused};
@@ -25,6 +27,38 @@ pub enum TurnFault {
     Console { turn: u64, kept: u64, found: u64 },
 }
 
+/// Makes the turns of a schedule that is followed, and keeps what it sees of them.
+pub trait Watcher {
+    /// It has seen so many turns of a schedule, which lead from a board to these cores and this bus.
+    ghost Sees: { Self → BoardModel → List ℕ → ℕ → List CoreModel → BusState → Type 0 };
+
+    /// Makes the turn at a place of a schedule, from 0, as `Board::turn` does, with the same refusals. It has seen those before.
+    fn watch(&mut self, board: &mut Board, turns: &[u8], place: usize) -> Result<(), Refused>
+        requires inside { place < length turns.now }
+        requires seen { (start : BoardModel) × Sees self.old start turns.now place board.old.cores board.old.bus }
+        ensures turned { (now : BoardModel) → IsBoard board.old.cores board.old.bus now
+            → IsTurned (board_turned now (slice_index turns.now place)) result board.new.cores board.new.bus }
+        ensures err { OnErr result (board.new ≡ board.old) }
+        ensures why { RefusedBy board.old.cores (slice_index turns.now place) result }
+        ensures config { board.new.config ≡ board.old.config }
+        ensures seen { OnOk result ((start : BoardModel) → Sees self.old start turns.now place board.old.cores board.old.bus
+            → Sees self.new start turns.now (place + 1) board.new.cores board.new.bus) };
+}
+
+/// Keeps nothing of the turns.
+#[derive(Drop)]
+pub struct Unwatched;
+
+impl Watcher for Unwatched {
+    ghost use Rattle.std.specs.Prelude.{ℕ};
+
+    ghost Sees = { λ _ start turns n cores bus. Unit {0} };
+
+    fn watch(&mut self, board: &mut Board, turns: &[u8], place: usize) -> Result<(), Refused> {
+        board.turn(turns[place])
+    }
+}
+
 impl Board {
     /// Follows a schedule, and compares each mark after its block's last turn, its writes before its console. Where no marks
     /// are given, none is compared. Afterwards every core has stopped.
@@ -39,24 +73,48 @@ impl Board {
             → MatchResult result (λ _. IsFollowable start turns.now marks.now) (λ _. IsFollowable start turns.now marks.now → ⊥) }
         ensures config { self.new.config ≡ self.old.config }
     {
-        follow_blocks(self, turns, marks, BLOCK)
+        self.follow_watched(turns, marks, &mut Unwatched)
+    }
+
+    /// Follows a schedule as `follow` does, with the same errors; each of its turns is made by `watcher`.
+    pub fn follow_watched<W: Watcher>(
+        &mut self,
+        turns: &[u8],
+        marks: &[Mark],
+        watcher: &mut W,
+    ) -> Result<(), TurnFault>
+        requires marks { (marks.now ≡ []) ⊎ (length marks.now ≡ length turns.now / 65536) }
+        requires seen { (start : BoardModel) × W.Sees watcher.old start turns.now 0 self.old.cores self.old.bus }
+        ensures followed { (start : BoardModel) → IsBoard self.old.cores self.old.bus start
+            → IsFollowed 65536 start turns.now marks.now result self.new.cores self.new.bus }
+        ensures exact { (start : BoardModel) → IsBoard self.old.cores self.old.bus start
+            → MatchResult result (λ _. IsFollowable start turns.now marks.now) (λ _. IsFollowable start turns.now marks.now → ⊥) }
+        ensures config { self.new.config ≡ self.old.config }
+        ensures seen { OnOk result ((start : BoardModel) → W.Sees watcher.old start turns.now 0 self.old.cores self.old.bus
+            → W.Sees watcher.new start turns.now (length turns.now) self.new.cores self.new.bus) }
+    {
+        follow_blocks(self, turns, marks, BLOCK, watcher)
     }
 }
 
 // Follows a schedule of blocks of so many turns.
-fn follow_blocks(
+fn follow_blocks<W: Watcher>(
     board: &mut Board,
     turns: &[u8],
     marks: &[Mark],
     block: usize,
+    watcher: &mut W,
 ) -> Result<(), TurnFault>
     requires block { 0 < block }
+    requires seen { (start : BoardModel) × W.Sees watcher.old start turns.now 0 board.old.cores board.old.bus }
     ensures followed { (start : BoardModel) → IsBoard board.old.cores board.old.bus start
         → IsFollowed block start turns.now marks.now result board.new.cores board.new.bus }
     ensures config { board.new.config ≡ board.old.config }
+    ensures seen { OnOk result ((start : BoardModel) → W.Sees watcher.old start turns.now 0 board.old.cores board.old.bus
+        → W.Sees watcher.new start turns.now (length turns.now) board.new.cores board.new.bus) }
 {
     for place in 0..turns.len() {
-        match advance(board, turns, place, marks, block) {
+        match advance(board, turns, place, marks, block, watcher) {
             Ok(()) => {}
             Err(fault) => return Err(fault),
         }
@@ -71,20 +129,24 @@ fn follow_blocks(
 
 // Makes the turn at a place, and compares the mark of the block that it ends.
 #[tactic(auto, using(crate::proofs::Followed::followed))]
-fn advance(
+fn advance<W: Watcher>(
     board: &mut Board,
     turns: &[u8],
     place: usize,
     marks: &[Mark],
     block: usize,
+    watcher: &mut W,
 ) -> Result<(), TurnFault>
     requires block { 0 < block }
     requires inside { place < length turns.now }
+    requires seen { (start : BoardModel) × W.Sees watcher.old start turns.now place board.old.cores board.old.bus }
     ensures advanced { (start : BoardModel) → IsLed block start turns.now marks.now place board.old.cores board.old.bus
         → IsAdvanced block start turns.now marks.now place result board.new.cores board.new.bus }
     ensures config { board.new.config ≡ board.old.config }
+    ensures seen { OnOk result ((start : BoardModel) → W.Sees watcher.old start turns.now place board.old.cores board.old.bus
+        → W.Sees watcher.new start turns.now (place + 1) board.new.cores board.new.bus) }
 {
-    match board.turn(turns[place]) {
+    match watcher.watch(board, turns, place) {
         Ok(()) => compare(marks, place + 1, block, board.mark()),
         Err(Refused::NoSuchCore) => Err(TurnFault::NoCore { turn: place as u64 }),
         Err(Refused::CoreStopped) => Err(TurnFault::Stopped { turn: place as u64 }),

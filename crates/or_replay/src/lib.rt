@@ -10,6 +10,6 @@ mod reporting;
 mod watching;
 
 pub use board::{Board, Refused};
-pub use follow::TurnFault;
+pub use follow::{TurnFault, Unwatched, Watcher};
 pub use opening::OpenFault;
 pub use reporting::{core_text, report};

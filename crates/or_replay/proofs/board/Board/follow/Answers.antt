@@ -1,7 +1,6 @@
-use Rattle.or_replay.proofs.Followable.{followed_exactly}
+use Rattle.std.specs.Prelude.{[]}
+use Rattle.or_model.specs.Step.{empty_world}
 use Rattle.or_replay.proofs.board.Board.follow.Goals as goal
 
-pub returns-clause-exact : goal.returns-clause-exact
-returns-clause-exact c = λ start is.
-    let followed = c.follow_blocks.ensures.followed start is in
-    followed_exactly start c.args.turns.now c.args.marks.now c.follow_blocks.result followed.last c.requires.marks followed.followed
+pub follow_watched-requires-clause-seen : goal.follow_watched-requires-clause-seen
+follow_watched-requires-clause-seen c = (record { cores = []; world = empty_world }, tt)
