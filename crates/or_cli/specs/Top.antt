@@ -7,13 +7,13 @@ use Rattle.or_command.specs.Lines.{usage_line}
 use Rattle.or_command.specs.Said.{SaidLine}
 use Rattle.or_command.specs.Outcomes.{LeavesAll}
 use Rattle.or_command.specs.Answered.{Answers, AnswersBy, IsDecided, IsDecidedBy}
-use Rattle.or_command_replay.specs.Replay.{replay_loads, RecordedVerdict, ReplayWrites}
+use Rattle.or_recorded.specs.Replay.{replay_loads, RecordedVerdict, ReplayWrites}
 use Rattle.or_command_debug.specs.Debug.{debug_loads, DebugVerdict, DebugWrites}
 use Rattle.or_command_source.specs.Assembly.{asm_loads, asm_check, AsmWrites}
 use Rattle.or_command_source.specs.Listing.{dis_loads, dis_check, DisWrites, DisLacks}
 use Rattle.or_command_source.specs.Generation.{gen_loads, gen_check, GenWrites}
 use Rattle.or_command_back.specs.Back.{back_loads, BackVerdict, BackWrites}
-use Rattle.or_command_race.specs.Race.{race_loads, RaceVerdict, RaceWrites}
+use Rattle.or_recorded.specs.Race.{race_loads, RaceVerdict, RaceWrites}
 use Rattle.or_command_prof.specs.Prof.{prof_loads, ProfVerdict, ProfWrites}
 use Rattle.or_command_run.specs.Run.{RunAnswers, RunDecided}
 use Rattle.or_command_run.specs.Bench.{bench_loads, bench_check, BenchWrites}

@@ -6,14 +6,16 @@ ghost use Rattle.or_words.specs.Settings.{Fits};
 ghost use Rattle.or_command_line.specs.Names.{run_names, recorded_names, AreWritten, AreRecorded, IsReport};
 ghost use Rattle.or_command.specs.Outcomes.{LeavesAll};
 ghost use Rattle.or_command.specs.Answered.{Answers, AnswersBy, IsDecided, IsDecidedBy};
-ghost use Rattle.or_command_replay.specs.Replay.{replay_loads, RecordedVerdict, ReplayWrites};
+ghost use Rattle.or_recorded.specs.Replay.{replay_loads, RecordedVerdict, ReplayWrites};
 ghost use Rattle.or_command_run.specs.Run.{RunAnswers, RunDecided};
 ghost use Rattle.or_command_run.specs.Bench.{bench_loads, bench_check, BenchWrites};
 ghost use Rattle.or_command_line.specs.Words.{IsFileName};
 ghost use Rattle.or_command_line.specs.Workloads.{FitsWorkload};
 ghost use Rattle.or_command_debug.specs.Debug.{debug_loads, DebugVerdict, DebugWrites};
 ghost use Rattle.or_command_prof.specs.Prof.{prof_loads, ProfVerdict, ProfWrites};
-ghost use Rattle.or_command_race.specs.Race.{race_loads, RaceVerdict, RaceWrites};
+ghost use Rattle.or_recorded.specs.Race.{race_loads, RaceVerdict, RaceWrites};
+ghost use Rattle.or_recorded.specs.Files.{names_of, AreNames, loads};
+ghost use Rattle.or_recorded.specs.Command.{Verdict, Writes};
 ghost use Rattle.or_command_back.specs.Back.{back_loads, BackVerdict, BackWrites};
 ghost use Rattle.or_command_line.specs.Settings.{FitsStay, FitsEvery};
 ghost use Rattle.or_cli.specs.Top.{threaded_command, lone_command, IsUsage, CommandEnds, IsComplete};
@@ -24,11 +26,10 @@ use or_command_back::back;
 use or_command_debug::debug;
 use or_command_line::{Command, Recorded, Run, Workload, parse};
 use or_command_prof::prof;
-use or_command_race::race;
-use or_command_replay::replay;
 use or_command_run::{bench, run, run_status};
 use or_command_source::{asm, dis, generate};
 use or_host::Host;
+use or_recorded::{Names, Race, RecordedCommand, carry_out, replay};
 use std::alloc::Global;
 use std::sync::Wait;
 use std::thread::Threads;
@@ -73,6 +74,24 @@ fn bench_command<R: Threads + Wait + Sync, H: Host, G: Gate + Sync>(
     ensures command { result ≢ 2 }
 {
     let outcome = bench(rt, alloc, workload, schedule, stay, host, gate);
+    conclude(host, outcome)
+}
+
+// Does a command on a recorded run, and says how that ended.
+fn recorded_command<C: RecordedCommand, H: Host>(
+    alloc: Global,
+    names: &Names<'_>,
+    command: &C,
+    host: &mut H,
+) -> u8
+    requires names { AreNames (names_of names.now) }
+    ensures ends { AnswersBy (loads (names_of names.now)) (Verdict (C.fault command.now) (C.Makes command.now) (names_of names.now))
+        (Writes (C.fault command.now) (C.Makes command.now) (names_of names.now)) LeavesAll result (H.state host.old) (H.state host.new) }
+    ensures complete { IsDecidedBy (loads (names_of names.now)) (Verdict (C.fault command.now) (C.Makes command.now) (names_of names.now))
+        (Writes (C.fault command.now) (C.Makes command.now) (names_of names.now)) LeavesAll result (H.state host.old) (H.state host.new) }
+    ensures command { result ≢ 2 }
+{
+    let outcome = carry_out(alloc, names, command, host);
     conclude(host, outcome)
 }
 
@@ -134,8 +153,12 @@ fn race_command<H: Host>(alloc: Global, names: &Recorded<'_>, host: &mut H) -> u
         result (H.state host.old) (H.state host.new) }
     ensures command { result ≢ 2 }
 {
-    let outcome = race(alloc, names, host);
-    conclude(host, outcome)
+    let names = Names {
+        run: *names,
+        script: None,
+        report: None,
+    };
+    recorded_command(alloc, &names, &Race, host)
 }
 
 // Profiles a recorded run, and says how that ended.

@@ -9,7 +9,7 @@ use Rattle.or_command.specs.Finishing.{WriteEnds, WritesSoFar, GoesOn, end_of_ch
 use Rattle.or_command_line.specs.Names.{Recorded}
 use Rattle.or_script.specs.declared.fault.ScriptFault.{ScriptFault}
 use Rattle.or_script.specs.declared.fault.ScriptFault.TheVariants.{BadCommand, OutOfRange, NoMemory}
-use Rattle.or_command_replay.specs.Replay.{bytes_in}
+use Rattle.or_recorded.specs.Replay.{bytes_in}
 use Rattle.or_command_debug.specs.Debug.{script_bytes, script_check}
 use Rattle.or_command_back.specs.Back.{back_loads, HasBackFault, BackVerdict, BackWrites, IsGoneOver, IsBackText}
 

@@ -10,8 +10,8 @@ ghost use Rattle.or_command.specs.Outcomes.{OutcomeBy, LeavesAll};
 ghost use Rattle.or_command.specs.Loads.{bytes_of};
 ghost use Rattle.or_command_line.specs.Names.{recorded_names, AreRecorded};
 ghost use Rattle.or_command_image.specs.Loaded.{RecordedBytes};
-ghost use Rattle.or_command_replay.specs.Checked.{IsChecked};
-ghost use Rattle.or_command_replay.specs.Replay.{bytes_in};
+ghost use Rattle.or_recorded.specs.Checked.{IsChecked};
+ghost use Rattle.or_recorded.specs.Replay.{bytes_in};
 ghost use Rattle.or_command_line.specs.Settings.{FitsEvery};
 ghost use Rattle.or_command_debug.specs.Debug.{script_bytes};
 ghost use Rattle.or_command_back.specs.Back.{back_loads, BackVerdict, BackWrites, IsBackText};
@@ -21,8 +21,8 @@ use or_command::{LoadStop, Outcome};
 use or_command_debug::{load_debugged, refuse_script, script_in};
 use or_command_image::recorded_in;
 use or_command_line::Recorded;
-use or_command_replay::{Recording, check, open_board, refuse, tell};
 use or_host::Host;
+use or_recorded::{Recording, check, open_board, refuse, tell};
 use std::alloc::Global;
 
 // The session of a script on a recorded run, with copies of its boards behind each so many turns. The image has no fault, so

@@ -10,10 +10,10 @@ use Rattle.or_command_line.specs.Names.{Recorded}
 use Rattle.or_command_image.specs.Loaded.{RecordedBytes}
 use Rattle.or_script.specs.declared.fault.ScriptFault.{ScriptFault}
 use Rattle.or_script.specs.declared.fault.ScriptFault.TheVariants.{BadCommand, OutOfRange, NoMemory}
-use Rattle.or_command_replay.specs.declared.checked.Recording.{Recording}
-use Rattle.or_command_replay.specs.declared.checked.Checked.{Checked}
-use Rattle.or_command_replay.specs.Checked.{IsChecked, IsRunChecked}
-use Rattle.or_command_replay.specs.Replay.{bytes_in}
+use Rattle.or_recorded.specs.declared.checked.Recording.{Recording}
+use Rattle.or_recorded.specs.declared.checked.Checked.{Checked}
+use Rattle.or_recorded.specs.Checked.{IsChecked, IsRunChecked}
+use Rattle.or_recorded.specs.Replay.{bytes_in}
 use Rattle.or_command_debug.specs.Debug.{debug_loads, script_bytes, script_check, HasScriptFault, DebugVerdict, DebugWrites, IsDebugged, IsText}
 
 written : (names : Recorded) (name : List ℕ) (files : List (List ℕ)) (text : List ℕ) (end : CommandEnd) (a b : HostState)

@@ -5,7 +5,7 @@ use Rattle.or_command.specs.Ends.{FailedCheck}
 use Rattle.or_command_line.specs.Names.{Recorded}
 use Rattle.or_script.specs.declared.fault.ScriptFault.{ScriptFault}
 use Rattle.or_script.specs.declared.fault.ScriptFault.TheVariants.{BadCommand, OutOfRange, NoMemory}
-use Rattle.or_command_replay.proofs.Statuses.{status_is, recorded_not_two}
+use Rattle.or_recorded.proofs.Statuses.{status_is, recorded_not_two}
 use Rattle.or_command_debug.specs.Debug.{script_check, DebugVerdict}
 
 of_script : (name : List ℕ) (fault : ScriptFault) (check : FailedCheck) → script_check name fault ≡ Some check → check.status ≢ 2

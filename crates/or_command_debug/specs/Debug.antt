@@ -15,8 +15,8 @@ use Rattle.or_script.specs.declared.fault.ScriptFault.{ScriptFault}
 use Rattle.or_script.specs.declared.fault.ScriptFault.TheVariants.{BadCommand, OutOfRange, NoMemory}
 use Rattle.or_script.specs.Script.{script_of, fault_of}
 use Rattle.or_debug.specs.Session.{session_text}
-use Rattle.or_command_replay.specs.Checked.{IsChecked}
-use Rattle.or_command_replay.specs.Replay.{replay_loads, bytes_in, IsRefused}
+use Rattle.or_recorded.specs.Checked.{IsChecked}
+use Rattle.or_recorded.specs.Replay.{replay_loads, bytes_in, IsRefused}
 
 abbrev pub debug_loads : Recorded → List ℕ → List Load
 debug_loads names script = replay_loads names ++ record { name = script; limit = SCRIPT_LIMIT } ∷ []

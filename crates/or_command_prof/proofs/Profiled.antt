@@ -10,10 +10,10 @@ use Rattle.or_command_line.specs.Names.{Recorded}
 use Rattle.or_command_image.specs.Loaded.{RecordedBytes}
 use Rattle.or_elf.specs.declared.symbol_fault.SymFault.{SymFault}
 use Rattle.or_elf.specs.declared.symbol_fault.SymFault.TheVariants.{BadSections, BadTable, BadName, NoMemory}
-use Rattle.or_command_replay.specs.declared.checked.Recording.{Recording}
-use Rattle.or_command_replay.specs.declared.checked.Checked.{Checked}
-use Rattle.or_command_replay.specs.Checked.{IsChecked, IsRunChecked}
-use Rattle.or_command_replay.specs.Replay.{bytes_in}
+use Rattle.or_recorded.specs.declared.checked.Recording.{Recording}
+use Rattle.or_recorded.specs.declared.checked.Checked.{Checked}
+use Rattle.or_recorded.specs.Checked.{IsChecked, IsRunChecked}
+use Rattle.or_recorded.specs.Replay.{bytes_in}
 use Rattle.or_command_prof.specs.Prof.{prof_loads, symbols_check, HasSymbolFault, ProfVerdict, ProfWrites, IsProfiled, IsText}
 
 written : (names : Recorded) (files : List (List ℕ)) (text : List ℕ) (end : CommandEnd) (a b : HostState)

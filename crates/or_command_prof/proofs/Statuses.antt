@@ -4,7 +4,7 @@ use Rattle.or_command.specs.Ends.{FailedCheck}
 use Rattle.or_command_line.specs.Names.{Recorded}
 use Rattle.or_elf.specs.declared.symbol_fault.SymFault.{SymFault}
 use Rattle.or_elf.specs.declared.symbol_fault.SymFault.TheVariants.{BadSections, BadTable, BadName, NoMemory}
-use Rattle.or_command_replay.proofs.Statuses.{status_is, recorded_not_two}
+use Rattle.or_recorded.proofs.Statuses.{status_is, recorded_not_two}
 use Rattle.or_command_prof.specs.Prof.{fault_told, symbols_check, ProfVerdict}
 
 twelve : (name : List ℕ) (fault : SymFault) (check : FailedCheck) → Some (fault_told name fault) ≡ Some check → check.status ≢ 2

@@ -13,8 +13,8 @@ use Rattle.or_command.specs.Ends.{FailedCheck}
 use Rattle.or_command_line.specs.Names.{Recorded}
 use Rattle.or_command_image.specs.Loaded.{RecordedBytes}
 use Rattle.or_replay.specs.Start.{start}
-use Rattle.or_command_replay.specs.Checked.{IsChecked}
-use Rattle.or_command_replay.specs.Replay.{replay_loads, bytes_in, IsRefused, IsSound}
+use Rattle.or_recorded.specs.Checked.{IsChecked}
+use Rattle.or_recorded.specs.Replay.{replay_loads, bytes_in, IsRefused, IsSound}
 use Rattle.or_prof.specs.Text.{IsProfText}
 use Rattle.or_command_prof.specs.Traces.{traces}
 

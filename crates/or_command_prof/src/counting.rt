@@ -11,9 +11,9 @@ ghost use Rattle.or_command_prof.specs.Level.{IsLevel};
 ghost use Rattle.or_command_prof.specs.Traces.{IsAdded, traces};
 
 use arrayvec::ArrayVec;
-use or_command_replay::{Recording, open_board};
 use or_elf::Symbols;
 use or_prof::Profile;
+use or_recorded::{Recording, open_board};
 use or_replay::Board;
 use or_words::NoMemory;
 use std::alloc::Global;

@@ -10,17 +10,17 @@ ghost use Rattle.or_command.specs.Outcomes.{OutcomeBy, LeavesAll};
 ghost use Rattle.or_command.specs.Loads.{bytes_of};
 ghost use Rattle.or_command_line.specs.Names.{recorded_names, AreRecorded};
 ghost use Rattle.or_command_image.specs.Loaded.{RecordedBytes};
-ghost use Rattle.or_command_replay.specs.Checked.{IsChecked};
-ghost use Rattle.or_command_replay.specs.Replay.{bytes_in};
+ghost use Rattle.or_recorded.specs.Checked.{IsChecked};
+ghost use Rattle.or_recorded.specs.Replay.{bytes_in};
 ghost use Rattle.or_command_prof.specs.Prof.{prof_loads, symbols_check, ProfVerdict, ProfWrites, IsText};
 
 use crate::counting::profile_text;
 use or_command::{LoadStop, Outcome, Refusal};
 use or_command_image::{load_recorded, recorded_in};
 use or_command_line::Recorded;
-use or_command_replay::{Recording, check, refuse, tell};
 use or_elf::{SymFault, Symbols};
 use or_host::Host;
+use or_recorded::{Recording, check, refuse, tell};
 use std::alloc::Global;
 
 // The profile of a recorded run whose checks have passed, or the fault of its image's symbols.

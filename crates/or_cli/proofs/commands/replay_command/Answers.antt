@@ -3,8 +3,8 @@ use Rattle.or_command.specs.Ends.{end_of}
 use Rattle.or_command.specs.Outcomes.{LeavesAll}
 use Rattle.or_command.proofs.OutcomesLemmas.{said_leaves_all}
 use Rattle.or_command.proofs.AnsweredLemmas.{answered_by, decided_by, not_two_by}
-use Rattle.or_command_replay.specs.Replay.{replay_loads, RecordedVerdict, ReplayWrites}
-use Rattle.or_command_replay.proofs.Statuses.{recorded_not_two}
+use Rattle.or_recorded.specs.Replay.{replay_loads, RecordedVerdict, ReplayWrites}
+use Rattle.or_recorded.proofs.Statuses.{recorded_not_two}
 use Rattle.or_cli.proofs.commands.replay_command.Goals as goal
 
 pub returns-clause-ends : goal.returns-clause-ends

@@ -3,7 +3,7 @@ use Rattle.or_command.specs.Ends.{end_of}
 use Rattle.or_command.specs.Finishing.{WriteEnds}
 use Rattle.or_command.specs.Loads.{bytes_of}
 use Rattle.or_command_line.specs.Names.{recorded_names}
-use Rattle.or_command_replay.specs.Replay.{bytes_in}
+use Rattle.or_recorded.specs.Replay.{bytes_in}
 use Rattle.or_command_back.specs.Back.{IsGoneOver, IsBackText}
 use Rattle.or_command_debug.proofs.Sessions.{checked_in}
 use Rattle.or_command_back.proofs.Sessions.{written_ends, script_ends}

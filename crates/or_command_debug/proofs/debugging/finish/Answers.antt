@@ -3,7 +3,7 @@ use Rattle.or_command.specs.Ends.{end_of}
 use Rattle.or_command.specs.Finishing.{WriteEnds}
 use Rattle.or_command.specs.Loads.{bytes_of}
 use Rattle.or_command_line.specs.Names.{recorded_names}
-use Rattle.or_command_replay.specs.Replay.{bytes_in}
+use Rattle.or_recorded.specs.Replay.{bytes_in}
 use Rattle.or_command_debug.specs.Debug.{IsDebugged, IsText}
 use Rattle.or_command_debug.proofs.Sessions.{checked_in, written_ends, script_ends}
 use Rattle.or_command_debug.proofs.debugging.finish.Goals as goal

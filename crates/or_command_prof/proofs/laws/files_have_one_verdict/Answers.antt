@@ -1,5 +1,5 @@
 use Rattle.or_command_line.specs.Names.{recorded_names}
-use Rattle.or_command_replay.specs.Replay.{bytes_in}
+use Rattle.or_recorded.specs.Replay.{bytes_in}
 use Rattle.or_command_prof.proofs.Verdicts.{one_verdict}
 use Rattle.or_command_prof.proofs.laws.files_have_one_verdict.Goals as goal
 

@@ -3,7 +3,7 @@ use Rattle.or_command.specs.Ends.{end_of}
 use Rattle.or_command.specs.Finishing.{WriteEnds}
 use Rattle.or_command.specs.Loads.{bytes_of}
 use Rattle.or_command_line.specs.Names.{recorded_names}
-use Rattle.or_command_replay.specs.Replay.{bytes_in}
+use Rattle.or_recorded.specs.Replay.{bytes_in}
 use Rattle.or_command_prof.proofs.Profiled.{checked_in, written_ends, symbols_end}
 use Rattle.or_command_prof.proofs.profiling.finish.Goals as goal
 

@@ -1,4 +1,0 @@
-pub mod Accesses
-pub mod Raced
-pub mod Reports
-pub mod Statuses

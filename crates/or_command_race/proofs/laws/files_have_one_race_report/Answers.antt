@@ -1,6 +1,0 @@
-use Rattle.or_command_line.specs.Names.{recorded_names}
-use Rattle.or_command_race.proofs.Reports.{one_race_report}
-use Rattle.or_command_race.proofs.laws.files_have_one_race_report.Goals as goal
-
-pub returns : goal.returns
-returns c = one_race_report (recorded_names c.args.names.now)

@@ -1,8 +1,0 @@
-//! The command `race`.
-#![tactic(auto)]
-
-mod events;
-pub mod laws;
-mod racing;
-
-pub use racing::race;

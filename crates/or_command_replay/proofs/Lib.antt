@@ -1,4 +1,0 @@
-pub mod Recorded
-pub mod Replayed
-pub mod Statuses
-pub mod Verdicts

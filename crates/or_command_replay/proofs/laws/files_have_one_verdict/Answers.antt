@@ -1,9 +1,0 @@
-use Rattle.or_command_line.specs.Names.{recorded_names}
-use Rattle.or_command_replay.specs.Replay.{bytes_in}
-use Rattle.or_command_replay.proofs.Verdicts.{one_verdict}
-use Rattle.or_command_replay.proofs.laws.files_have_one_verdict.Goals as goal
-
-pub returns : goal.returns
-returns c = λ files found other is also.
-    let names = recorded_names c.args.names.now in
-    one_verdict names (bytes_in names files) found other is also

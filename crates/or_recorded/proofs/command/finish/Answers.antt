@@ -1,0 +1,13 @@
+use Rattle.or_command.specs.Ends.{end_of}
+use Rattle.or_command.specs.Loads.{bytes_of}
+use Rattle.or_recorded.specs.Files.{names_of, bytes_of_files, files_in}
+use Rattle.or_recorded.proofs.Commands.{refused_ends}
+use Rattle.or_recorded.proofs.command.finish.Goals as goal
+
+pub returns-in-Err-clause-outcome : goal.returns-in-Err-clause-outcome
+returns-in-Err-clause-outcome g c =
+    let command = g.C.RecordedCommand in
+    let told = c.named.ensures in
+    refused_ends (command.fault c.args.command.now) (command.Makes c.args.command.now) (names_of c.args.names.now) (bytes_of c.args.read.now)
+    (bytes_of_files c.named.result) c.in-Err.fault (end_of c.refuse_fault.result) (g.H.Host.state c.args.host.now)
+    (λ i. record { image = told.image i; input = told.input i; recording = told.recording i; script = told.script i }) c.in-Err.ensures c.refuse_fault.ensures
