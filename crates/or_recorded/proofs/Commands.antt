@@ -8,7 +8,8 @@ use Rattle.or_command.specs.Ends.{FailedCheck, CommandEnd}
 use Rattle.or_command.specs.Outcomes.{AreApart}
 use Rattle.or_command.specs.Finishing.{GoesOn, end_of_check}
 use Rattle.or_command_line.specs.Names.{Recorded, IsReport}
-use Rattle.or_command_image.specs.Loaded.{is_no_input, input_limit, recording_limit}
+use Rattle.or_words.specs.declared.limits.TheConstants.{INPUT_LIMIT, RECORDING_LIMIT}
+use Rattle.or_command_image.specs.Loaded.{is_no_input}
 use Rattle.or_recorded.specs.declared.refused.OwnFault.{OwnFault}
 use Rattle.or_recorded.specs.declared.refused.OwnFault.TheVariants.{Symbols, Script, NoMemory}
 use Rattle.or_recorded.specs.declared.refused.Fault.{Fault}
@@ -27,7 +28,7 @@ script_apart None report text is = tt
 script_apart (Some name) report text is = ((λ e. is (sym e), tt), tt)
 
 loads_apart : (dash : Bool) (run : Recorded) (script : Option (List ℕ)) (report text : List ℕ) → IsReport run report → IfSome script (λ name. report ≢ name)
-    → AreApart ((cond dash [] (record { name = run.input; limit = input_limit } ∷ []) ++ record { name = run.schedule; limit = recording_limit } ∷ []) ++ script_loads script)
+    → AreApart ((cond dash [] (record { name = run.input; limit = INPUT_LIMIT } ∷ []) ++ record { name = run.schedule; limit = RECORDING_LIMIT } ∷ []) ++ script_loads script)
     (record { name = report; text = text } ∷ [])
 loads_apart true run script report text is other = ((λ e. is.schedule (sym e), tt), script_apart script report text other)
 loads_apart false run script report text is other = ((λ e. is.input (sym e), tt), ((λ e. is.schedule (sym e), tt), script_apart script report text other))

@@ -1,6 +1,7 @@
 -- The files of a command on a recorded run: their names, the order in which they are loaded, and their bytes.
 use Rattle.std.specs.Prelude.{◌≢◌, ℕ, List, [], ◌∷◌, ◌++◌, Option, Some, None, IfSome, if◌then◌else◌}
 use Rattle.std.specs.Borrow.{Bor}
+use Rattle.or_words.specs.declared.limits.TheConstants.{SCRIPT_LIMIT}
 use Rattle.or_command.specs.Loads.{Load}
 use Rattle.or_command.specs.Writes.{File}
 use Rattle.or_command_line.specs.Words.{IsFileName}
@@ -27,13 +28,9 @@ with_script run script = record { run = run; script = Some script; report = None
 abbrev pub with_report : Recorded → List ℕ → Names
 with_report run report = record { run = run; script = None; report = Some report }
 
--- the limit of a script, in bytes
-abbrev pub script_limit : ℕ
-script_limit = 1048576
-
 abbrev pub script_loads : Option (List ℕ) → List Load
 script_loads None = []
-script_loads (Some name) = record { name = name; limit = script_limit } ∷ []
+script_loads (Some name) = record { name = name; limit = SCRIPT_LIMIT } ∷ []
 
 -- the image, the input where its name is not `-`, the recording and the script
 abbrev pub loads : Names → List Load

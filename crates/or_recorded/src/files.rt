@@ -8,15 +8,8 @@ use or_command::{Input, LoadStop, load_files};
 use or_command_image::file_at;
 use or_command_line::Recorded;
 use or_host::Host;
+use or_words::limits::{IMAGE_LIMIT, INPUT_LIMIT, RECORDING_LIMIT, SCRIPT_LIMIT};
 use std::alloc::Global;
-
-const IMAGE_LIMIT: usize = 67_108_864;
-
-const INPUT_LIMIT: usize = 1_048_576;
-
-const RECORDING_LIMIT: usize = 671_088_640;
-
-const SCRIPT_LIMIT: usize = 1_048_576;
 
 /// The names of the files of a command on a recorded run.
 #[derive(Clone, Copy)]
