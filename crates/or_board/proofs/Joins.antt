@@ -116,7 +116,7 @@ got_inside [] c core found = absurd (let b : ⊥ = cc in b)
 got_inside (first ∷ cores) zero core found = omega arith
 got_inside (first ∷ cores) (suc c) core found = let i = got_inside cores c core found in omega arith
 
-all_of : (n : ℕ) (xs : List ℕ) → AllBelow n xs → All (λ x. x < n) xs
+pub all_of : (n : ℕ) (xs : List ℕ) → AllBelow n xs → All (λ x. x < n) xs
 all_of n [] below k d h = absurd (omega arith)
 all_of n (x ∷ xs) below zero d h = below.0
 all_of n (x ∷ xs) below (suc k) d h = all_of n xs below.1 k d (omega arith)

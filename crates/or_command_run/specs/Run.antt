@@ -1,14 +1,12 @@
 -- What the command `run` loads, checks and writes.
-use Rattle.std.specs.Prelude.{◌≡◌, ℕ, ◌==◌, List, [], ◌∷◌, Option, Some, None, Bool, true, false, not, ◌&&◌, if◌then◌else◌, length}
+use Rattle.std.specs.Prelude.{◌≡◌, ℕ, ◌==◌, List, [], ◌∷◌, Option, Bool, ◌&&◌, if◌then◌else◌, length}
 use Rattle.or_words.specs.declared.Config.{Config}
 use Rattle.or_words.specs.Settings.{ram_bytes}
 use Rattle.or_elf.specs.Fault.{elf_fault}
 use Rattle.or_sched.specs.declared.recording.Head.{Head}
-use Rattle.or_model.specs.declared.Stop.{Stop}
-use Rattle.or_model.specs.declared.Stop.TheVariants.{Exit, Budget}
-use Rattle.or_model.specs.Core.{Core}
 use Rattle.or_model.specs.Turn.{Board}
 use Rattle.or_replay.specs.Start.{start}
+use Rattle.or_replay.specs.Failing.{some_core_fails}
 use Rattle.or_replay.specs.Report.{report_text}
 use Rattle.or_host.specs.HostState.{HostState}
 use Rattle.or_command_line.specs.declared.RunOptions.{RunOptions}
@@ -27,16 +25,6 @@ run_loads names = image_loads names.image names.input
 -- the image has no fault for this size of RAM
 abbrev pub run_check : Names → Config → List (List ℕ) → Option FailedCheck
 run_check names config files = image_check names.image (elf_fault (image_in files) (ram_bytes config))
-
--- a core fails that stops by its budget, or with an exit value that is not 0
-abbrev pub fails : Option Stop → Bool
-fails None = false
-fails (Some Budget) = true
-fails (Some (Exit value)) = not (value == 0)
-
-abbrev pub some_core_fails : List Core → Bool
-some_core_fails [] = false
-some_core_fails (core ∷ cores) = if fails core.stop then true else some_core_fails cores
 
 -- a recorded run from a start, the report of the board to which it leads, and whether a core failed
 pub record IsRunFrom (first : Board) (head : Head) (recording report console : List ℕ) (failed : Bool) : Type 0 where

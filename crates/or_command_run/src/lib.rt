@@ -6,4 +6,5 @@ mod opened;
 mod running;
 
 pub use benching::bench;
+pub use opened::{head, refused, write_recorded};
 pub use running::{RunEnd, run, run_status};

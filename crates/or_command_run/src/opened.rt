@@ -1,12 +1,17 @@
-//! What both commands do with an image that they open: the head of its recording, and how a fault of it ends the command.
-ghost use Rattle.std.specs.Prelude.{◌≡◌, ℕ, List};
+//! What the commands do that open an image and write a recording: its head, how a fault of the image ends the command, and
+//! what is written.
+ghost use Rattle.std.specs.Prelude.{◌≡◌, [], ◌∷◌, ℕ, List};
 ghost use Rattle.or_elf.specs.Fault.{elf_fault};
+ghost use Rattle.or_command_line.specs.Words.{IsFileName};
+ghost use Rattle.or_command.specs.Leaves.{Silent};
 ghost use Rattle.or_command.specs.Ends.{end_of};
+ghost use Rattle.or_command.specs.Finishing.{WriteEnds};
 ghost use Rattle.or_command.specs.Answered.{Stops};
 ghost use Rattle.or_command_image.specs.Loaded.{image_check};
 ghost use Rattle.or_command_run.specs.Recorded.{head_of, RunFails};
 
-use or_command::{Outcome, Refusal};
+use or_command::{Outcome, Output, Refusal, write_outputs};
+use or_host::Host;
 use or_replay::OpenFault;
 use or_sched::Head;
 use or_words::Config;
@@ -14,7 +19,7 @@ use sha2::{Digest, Sha256};
 
 /// The head of a recording.
 #[tactic(auto, unfolding(crate::specs::Recorded::head_of))]
-pub(crate) fn head(config: &Config, image: &[u8], input: &[u8]) -> Head
+pub fn head(config: &Config, image: &[u8], input: &[u8]) -> Head
     ensures { result ≡ head_of config.now image.now input.now }
 {
     Head {
@@ -25,7 +30,7 @@ pub(crate) fn head(config: &Config, image: &[u8], input: &[u8]) -> Head
 }
 
 /// How the command ends on an image of this name that can't be opened.
-pub(crate) fn refused(name: &str, fault: OpenFault) -> Outcome<'_>
+pub fn refused(name: &str, fault: OpenFault) -> Outcome<'_>
     ensures { (image : List ℕ) (ram : ℕ) → RunFails image ram fault → Stops (image_check name.now (elf_fault image ram)) (end_of result) }
 {
     match fault {
@@ -36,4 +41,29 @@ pub(crate) fn refused(name: &str, fault: OpenFault) -> Outcome<'_>
             place: u64::from(fault.place()),
         }),
     }
+}
+
+/// Writes a recording and a report to the files of these names, and then text to standard output.
+pub fn write_recorded<'a, H: Host>(
+    names: (&'a str, &'a str),
+    recording: &[u8],
+    report: &[u8],
+    text: &[u8],
+    host: &mut H,
+) -> Outcome<'a>
+    requires schedule { IsFileName names.0.now }
+    requires report { IsFileName names.1.now }
+    ensures outcome { WriteEnds (record { name = names.0.now; text = recording.now } ∷ record { name = names.1.now; text = report.now } ∷ [])
+        text.now (end_of result) (H.state host.old) (H.state host.new) }
+    ensures silent { Silent (H.state host.old) (H.state host.new) }
+{
+    let recording = Output {
+        name: names.0,
+        text: recording,
+    };
+    let report = Output {
+        name: names.1,
+        text: report,
+    };
+    write_outputs(host, &[recording, report], text)
 }

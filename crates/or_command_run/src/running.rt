@@ -17,17 +17,15 @@ ghost use Rattle.or_command_image.specs.Loaded.{image_in as image_of};
 ghost use Rattle.or_command.specs.Finishing.{WriteEnds};
 ghost use Rattle.or_command.specs.Answered.{FinishEnds};
 ghost use Rattle.or_command_run.specs.Recorded.{RunFails};
-ghost use Rattle.or_command_run.specs.Run.{run_loads, run_check, fails, some_core_fails, IsRun, IsRunFrom, RunWrites, run_status};
+ghost use Rattle.or_command_run.specs.Run.{run_loads, run_check, IsRun, IsRunFrom, RunWrites, run_status};
 
-use crate::opened::{head, refused};
+use crate::opened::{head, refused, write_recorded};
 use or_board::Gate;
-use or_command::{LoadStop, Outcome, Output, write_outputs};
+use or_command::{LoadStop, Outcome};
 use or_command_image::{image_in, input_in, load_image};
 use or_command_line::{Run, RunOptions};
-use or_core::Core;
 use or_host::Host;
-use or_model::Stop;
-use or_replay::{OpenFault, report};
+use or_replay::{OpenFault, has_failed, report};
 use or_sched::Head;
 use or_turn::Closed;
 use or_words::NoMemory;
@@ -50,31 +48,6 @@ struct RunTexts {
     report: Vec<u8>,
     console: Vec<u8>,
     failed: bool,
-}
-
-// Whether a core fails that stops so.
-fn is_failure(stop: Option<Stop>) -> bool
-    ensures { result ≡ fails stop }
-{
-    match stop {
-        Some(Stop::Budget) => true,
-        Some(Stop::Exit(value)) => value != 0,
-        None => false,
-    }
-}
-
-// Whether one of these cores fails.
-fn has_failed(cores: &[Core]) -> bool
-    ensures { result ≡ some_core_fails cores.now }
-{
-    let mut rest = cores;
-    while let Some((core, others)) = rest.split_first() {
-        if is_failure(core.stop()) {
-            return true;
-        }
-        rest = others;
-    }
-    false
 }
 
 /// The exit status of a run that ended with this one: 15 in place of 0 where a core failed and that is asked for.
@@ -195,15 +168,13 @@ fn write<'a, H: Host>(words: &Run<'a>, texts: &RunTexts, host: &mut H) -> Outcom
         texts.now.console.items (end_of result) (H.state host.old) (H.state host.new) }
     ensures silent { Silent (H.state host.old) (H.state host.new) }
 {
-    let recording = Output {
-        name: words.schedule,
-        text: texts.recording.as_slice(),
-    };
-    let report = Output {
-        name: words.report,
-        text: texts.report.as_slice(),
-    };
-    write_outputs(host, &[recording, report], texts.console.as_slice())
+    write_recorded(
+        (words.schedule, words.report),
+        texts.recording.as_slice(),
+        texts.report.as_slice(),
+        texts.console.as_slice(),
+        host,
+    )
 }
 
 /// Runs an image: loads it and the input, works each core on a thread of its own until it has stopped, with at most as many

@@ -1,11 +1,13 @@
 -- A schedule that is one turn longer, and the marks of its blocks.
-use Rattle.std.proofs.Common.{◌≡◌, ℕ, ◌+◌, ◌*◌, ◌≤◌, zero, suc, List, [], ◌∷◌, ◌++◌, Some, None, length, take, refl, ap, sym, ◌∙◌, arith, length-append, add-one}
+use Rattle.std.proofs.Common.{◌≡◌, ℕ, ◌+◌, ◌*◌, ◌/◌, ◌%◌, ◌≤◌, zero, suc, Bool, true, false, cond, eqb, List, [], ◌∷◌, ◌++◌, Some, None, length, take, refl, ap, sym, ◌∙◌, arith, length-append, add-one}
+use Rattle.std.proofs.lemmas.Bool.Decides.{nat_tests}
+use Rattle.or_sched.specs.declared.recording.Mark.{Mark}
 use Rattle.std.proofs.Math.Nat.{mul-suc}
 use Rattle.std.specs.Prelude.{Option}
 use Rattle.std.proofs.lemmas.List.{take-append-le}
 use Rattle.std.proofs.Math.Seq.{take-length}
 use Rattle.or_model.specs.Turn.{Board, board_turned, and_then, replay}
-use Rattle.or_replay.specs.Marks.{mark_of, mark_after, block_marks}
+use Rattle.or_replay.specs.Marks.{mark_of, mark_after, block_marks, marks, with_mark}
 
 and_no_more : (board : Option Board) → and_then board (λ next. Some next) ≡ board
 and_no_more None = refl
@@ -49,3 +51,30 @@ pub length-block_marks : (block : ℕ) (start : Board) (turns : List ℕ) (n : �
 length-block_marks block start turns zero = refl
 length-block_marks block start turns (suc n) =
     omega (arith, length-append (block_marks block start turns n) (mark_after (replay start (take (block * suc n) turns)) ∷ []), length-block_marks block start turns n)
+
+-- the marks of a schedule that is one turn longer
+pub marks_none : (b : Board) → marks b [] ≡ []
+unfolding marks
+marks_none b = refl
+
+pub length_marks : (b : Board) (xs : List ℕ) → length (marks b xs) ≡ length xs / 65536
+unfolding marks
+length_marks b xs = length-block_marks 65536 b xs (length xs / 65536)
+
+by_test : (test : Bool) (b next : Board) (xs : List ℕ) (c : ℕ) → eqb ((length xs + 1) % 65536) 0 ≡ test → replay b (xs ++ c ∷ []) ≡ Some next
+    → block_marks 65536 b (xs ++ c ∷ []) (length (xs ++ c ∷ []) / 65536) ≡ cond test (block_marks 65536 b xs (length xs / 65536) ++ mark_of next.world ∷ []) (block_marks 65536 b xs (length xs / 65536))
+by_test true b next xs c test reached =
+    let longer : length (xs ++ c ∷ []) ≡ length xs + 1 = length-append xs (c ∷ []) in
+    let whole : 65536 * (length xs / 65536 + 1) ≡ length (xs ++ c ∷ []) = grind (arith, nat_tests, test, longer) in
+    let many : length (xs ++ c ∷ []) / 65536 ≡ length xs / 65536 + 1 = omega arith in
+    ap (block_marks 65536 b (xs ++ c ∷ [])) many ∙ (marks_one_more 65536 b next (xs ++ c ∷ []) (length xs / 65536) whole reached
+    ∙ ap (λ (l : List Mark). l ++ mark_of next.world ∷ []) (marks_stay 65536 b xs c (length xs / 65536) (omega arith)))
+by_test false b next xs c test reached =
+    let longer : length (xs ++ c ∷ []) ≡ length xs + 1 = length-append xs (c ∷ []) in
+    let many : length (xs ++ c ∷ []) / 65536 ≡ length xs / 65536 = grind (arith, nat_tests, test, longer) in
+    ap (block_marks 65536 b (xs ++ c ∷ [])) many ∙ marks_stay 65536 b xs c (length xs / 65536) (omega arith)
+
+pub marks_longer : (b next : Board) (xs : List ℕ) (c : ℕ) → replay b (xs ++ c ∷ []) ≡ Some next
+    → marks b (xs ++ c ∷ []) ≡ with_mark (length xs + 1) next.world (marks b xs)
+unfolding marks
+marks_longer b next xs c reached = by_test (eqb ((length xs + 1) % 65536) 0) b next xs c refl reached

@@ -1,6 +1,7 @@
 pub mod Start
 pub mod Marks
 pub mod Board
+pub mod Failing
 pub mod Opening
 pub mod Report
 pub mod Following

@@ -80,6 +80,7 @@ impl Board {
         ensures why { RefusedBy self.old.cores core result }
         ensures config { self.new.config ≡ self.old.config }
         ensures left { Lessens result self.old.cores self.new.cores }
+        ensures many { length self.new.cores ≡ length self.old.cores }
     {
         turn_one(self.cores.as_mut_slice(), core, &mut self.bus)
     }
@@ -94,8 +95,8 @@ impl Board {
         (self.cores, self.bus)
     }
 
-    // The lengths of the history of writes and of the console.
-    pub(crate) fn mark(&self) -> Mark
+    /// The mark of this moment: how many writes to RAM were made, and how many bytes the console has shown.
+    pub fn mark(&self) -> Mark
         ensures { (now : BoardModel) → IsBoard self.now.cores self.now.bus now → result ≡ mark_of now.world }
     {
         Mark {

@@ -2,6 +2,7 @@
 #![tactic(auto)]
 
 mod board;
+mod failing;
 mod follow;
 pub mod laws;
 mod opening;
@@ -10,6 +11,7 @@ mod reporting;
 mod watching;
 
 pub use board::{Board, Refused};
+pub use failing::{has_failed, is_failure};
 pub use follow::{TurnFault, Unwatched, Watcher};
 pub use opening::OpenFault;
-pub use reporting::{core_text, report};
+pub use reporting::{append_stop, core_text, report};

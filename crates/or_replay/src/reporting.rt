@@ -16,7 +16,8 @@ use or_words::NoMemory;
 use sha2::{Digest, Sha256};
 use std::alloc::{AllocError, Global};
 
-fn append_stop(stop: Option<Stop>, out: &mut Vec<u8>) -> Result<(), AllocError>
+/// Appends how a core has stopped: `exit` with its value, `budget`, or `running`.
+pub fn append_stop(stop: Option<Stop>, out: &mut Vec<u8>) -> Result<(), AllocError>
     ensures { OnOk result (out.new.items ≡ out.old.items ++ stop_text stop) }
 {
     match stop {

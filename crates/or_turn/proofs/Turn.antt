@@ -10,6 +10,7 @@ use Rattle.or_model.proofs.Turns.{Begins, turn_begun-begins}
 use Rattle.or_bus.specs.Represents.{Represents}
 use Rattle.or_core.specs.Follows.{IsState, KeepsBus}
 use Rattle.or_replay.specs.Marks.{marks, with_mark}
+use Rattle.or_replay.proofs.Replaying.{length_marks}
 use Rattle.or_turn.specs.declared.view.Settings.{Settings}
 use Rattle.or_turn.specs.declared.view.Transfer.{Transfer}
 use Rattle.or_turn.specs.declared.view.Stage.TheVariants.{Idle}
@@ -20,7 +21,7 @@ use Rattle.or_turn.specs.Shown.{core_of, only_of, begun_core, HasBegun, Turned}
 use Rattle.or_turn.specs.Stays.{turn_from, HasBus, HasBusBegun, MadeTurns}
 use Rattle.or_turn.proofs.Replays.{MayTurn, turned_board, turned_here, snoc, count_append}
 use Rattle.or_turn.proofs.Steps.{Sound, sound}
-use Rattle.or_turn.proofs.Blocks.{length_marks, marks_more}
+use Rattle.or_turn.proofs.Blocks.{marks_more}
 use Rattle.or_turn.proofs.Counts.{core_told}
 use Rattle.or_turn.proofs.Stays.{count_stay}
 use Rattle.or_turn.proofs.Waiting.{only, left_over}

@@ -4,7 +4,7 @@ use Rattle.or_turn.specs.declared.view.Settings.{Settings}
 use Rattle.or_turn.specs.declared.unit.Unit.{Unit as Piece}
 use Rattle.or_turn.specs.Units.{settings_in, id_of}
 use Rattle.or_sched.specs.declared.recording.Mark.{Mark}
-use Rattle.or_turn.proofs.Blocks.{length_marks}
+use Rattle.or_replay.proofs.Replaying.{length_marks}
 use Rattle.or_board.specs.Works.{Starts, HasFrom}
 use Rattle.or_board.proofs.Joins.{popped, fresh_starts, worked_has, joined_has}
 use Rattle.or_board.proofs.tests.two_callers.Goals as goal

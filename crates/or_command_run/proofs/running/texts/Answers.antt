@@ -1,7 +1,7 @@
 use Rattle.std.proofs.Common.{◌≡◌, ◌∙◌, ◌++◌, ap, length, arith}
 use Rattle.or_sched.specs.RecText.{rec_text2}
 use Rattle.or_replay.specs.Report.{report_text}
-use Rattle.or_command_run.specs.Run.{some_core_fails}
+use Rattle.or_replay.specs.Failing.{some_core_fails}
 use Rattle.or_command_run.proofs.running.texts.Goals as goal
 
 pub returns : goal.returns

@@ -13,7 +13,7 @@ use Rattle.or_turn.specs.Rule.{Turns, SlotHolds, first_view, settings_of}
 use Rattle.or_turn.specs.Schedules.{first_board}
 use Rattle.or_turn.proofs.Replays.{board_none}
 use Rattle.or_turn.proofs.Steps.{first_cores, first_sound}
-use Rattle.or_turn.proofs.Blocks.{marks_none}
+use Rattle.or_replay.proofs.Replaying.{marks_none}
 use Rattle.or_turn.proofs.Opening.{starts}
 use Rattle.or_turn.proofs.shared.opening.share.Goals as goal
 

@@ -1,6 +1,6 @@
 use Rattle.std.proofs.Common.{◌≡◌, length}
-use Rattle.or_command_run.specs.Run.{some_core_fails}
-use Rattle.or_command_run.proofs.running.has_failed.Given as goal
+use Rattle.or_replay.specs.Failing.{some_core_fails}
+use Rattle.or_replay.proofs.failing.has_failed.Given as goal
 
 abbrev pub invariant-loop-core : goal.invariant-loop-core
 invariant-loop-core l = some_core_fails l.rest ≡ some_core_fails l.cores
