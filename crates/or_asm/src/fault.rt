@@ -1,9 +1,12 @@
 // Why a source has no program.
 ghost use Rattle.std.specs.Prelude.{◌≡◌, Some};
 ghost use Rattle.or_asm_read.specs.declared.fault.Fault.TheVariants as fault;
+ghost use Rattle.or_text.specs.Sentences.{sentence_text};
 ghost use Rattle.or_asm.specs.Source.{refusal_of, number_of_answer, line_of_answer};
+ghost use Rattle.or_asm.specs.Sentences.{answer_sentence};
 
 use or_asm_read::fault::Fault;
+use or_text::Sentence;
 use std::alloc::AllocError;
 use thiserror::Error;
 
@@ -61,6 +64,33 @@ impl AsmFault {
             | AsmFault::RepeatedLabel { line }
             | AsmFault::Overlap { line } => Some(line),
             AsmFault::NoMemory => None,
+        }
+    }
+
+    /// What the fault says to people.
+    pub fn sentence(self) -> Sentence<'static>
+        ensures { sentence_text result ≡ answer_sentence self }
+    {
+        match self {
+            AsmFault::BadLine { .. } => Sentence::plain(
+                "the line fits no form of a statement, or has a byte that is not allowed",
+            ),
+            AsmFault::UnknownName { .. } => Sentence::plain(
+                "no instruction and no directive has the statement's name",
+            ),
+            AsmFault::OutOfRange { .. } => {
+                Sentence::plain(
+                    "a number, a jump's target or the place of the word is out of its range",
+                )
+            }
+            AsmFault::UnknownLabel { .. } => Sentence::plain(
+                "the line uses a label that no line has",
+            ),
+            AsmFault::RepeatedLabel { .. } => Sentence::plain("an earlier line has the same label"),
+            AsmFault::Overlap { .. } => Sentence::plain(
+                "an earlier line has filled the place of the word",
+            ),
+            AsmFault::NoMemory => Sentence::plain("the system gave no more memory"),
         }
     }
 }

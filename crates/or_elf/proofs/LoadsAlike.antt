@@ -106,7 +106,7 @@ header_fault_same xs ys same =
     (or_else_same _ _ _ _ (ap (λ value. field_fault 20 value 1) (word 20 (omega arith)))
     (or_else_same _ _ _ _ (ap (λ value. field_fault 40 value 52) (half 40 (omega arith)))
     (or_else_same _ _ _ _ (ap (λ value. field_fault 42 value 32) (half 42 (omega arith)))
-    (ap (λ count. cond (nat_le count 64) None (Some (BadHeader 44))) (count_same xs ys same))))))
+    (ap (λ count. cond (nat_le count 64) None (Some (BadHeader 44 count))) (count_same xs ys same))))))
 
 table_fault_same : (xs ys : List ℕ) → LoadsAlike xs ys → table_fault xs ≡ table_fault ys
 table_fault_same xs ys same =

@@ -84,7 +84,7 @@ none_then first next p q = ap (λ f. or_else f next) p ∙ q
 field_right : (field value wanted : ℕ) → value ≡ wanted → field_fault field value wanted ≡ None
 field_right field value wanted same = grind (arith, nat_tests)
 
-few_right : (count : ℕ) → count ≤ 64 → cond (nat_le count 64) None (Some (BadHeader 44)) ≡ None
+few_right : (count : ℕ) → count ≤ 64 → cond (nat_le count 64) None (Some (BadHeader 44 count)) ≡ None
 few_right count few = grind (arith, nat_tests)
 
 header_right : (program : List Piece) → length program ≤ 64 → header_fault (elf_text program) ≡ None

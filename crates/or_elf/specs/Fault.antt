@@ -9,21 +9,21 @@ use Rattle.or_elf.specs.Header.{half_at, word_at, table_start, header_count, seg
 abbrev pub number_of : ElfFault → ℕ
 number_of (Short at) = 1
 number_of (BadIdent at) = 2
-number_of (BadHeader field) = 3
+number_of (BadHeader field value) = 3
 number_of NoSegments = 4
-number_of (SegmentOutOfFile index) = 5
-number_of (SegmentOutOfRam index) = 6
-number_of (FileSizeOverMemSize index) = 7
+number_of (SegmentOutOfFile index end size) = 5
+number_of (SegmentOutOfRam index end ram) = 6
+number_of (FileSizeOverMemSize index filesz memsz) = 7
 
 -- the place, the field's offset or the header's index
 abbrev pub place_of : ElfFault → ℕ
 place_of (Short at) = at
 place_of (BadIdent at) = at
-place_of (BadHeader field) = field
+place_of (BadHeader field value) = field
 place_of NoSegments = 0
-place_of (SegmentOutOfFile index) = index
-place_of (SegmentOutOfRam index) = index
-place_of (FileSizeOverMemSize index) = index
+place_of (SegmentOutOfFile index end size) = index
+place_of (SegmentOutOfRam index end ram) = index
+place_of (FileSizeOverMemSize index filesz memsz) = index
 
 -- the first fault, or else what the next test finds
 abbrev pub or_else : {F : Type 0} → Option F → Option F → Option F
@@ -46,7 +46,7 @@ ident_fault bytes = first_difference 0 (0x7F ∷ 0x45 ∷ 0x4C ∷ 0x46 ∷ 1 �
 
 -- the field at this offset has another value than the wanted one
 abbrev pub field_fault : ℕ → ℕ → ℕ → Option ElfFault
-field_fault field value wanted = if value == wanted then None else Some (BadHeader field)
+field_fault field value wanted = if value == wanted then None else Some (BadHeader field value)
 
 -- 3: e_type (executable), e_machine (OpenRISC), e_version, e_ehsize, e_phentsize, e_phnum
 abbrev pub header_fault : List ℕ → Option ElfFault
@@ -56,7 +56,7 @@ header_fault bytes =
     (or_else (field_fault 20 (word_at bytes 20) 1)
     (or_else (field_fault 40 (half_at bytes 40) 52)
     (or_else (field_fault 42 (half_at bytes 42) 32)
-    (if nat_le (header_count bytes) 64 then None else Some (BadHeader 44))))))
+    (if nat_le (header_count bytes) 64 then None else Some (BadHeader 44 (header_count bytes)))))))
 
 -- 4: the program headers, where there are any, end within the file
 abbrev pub table_fault : List ℕ → Option ElfFault
@@ -67,9 +67,9 @@ table_fault bytes =
 -- 6: the first fault of a segment, in a file of so many bytes for so much RAM
 abbrev pub segment_fault : ℕ → ℕ → Segment → Option ElfFault
 segment_fault size ram segment =
-    if not (segment.filesz == 0) && nat_lt size (segment.offset + segment.filesz) then Some (SegmentOutOfFile segment.index)
-    else (if nat_lt ram (segment.paddr + segment.memsz) then Some (SegmentOutOfRam segment.index)
-    else (if nat_lt segment.memsz segment.filesz then Some (FileSizeOverMemSize segment.index) else None))
+    if not (segment.filesz == 0) && nat_lt size (segment.offset + segment.filesz) then Some (SegmentOutOfFile segment.index (segment.offset + segment.filesz) size)
+    else (if nat_lt ram (segment.paddr + segment.memsz) then Some (SegmentOutOfRam segment.index (segment.paddr + segment.memsz) ram)
+    else (if nat_lt segment.memsz segment.filesz then Some (FileSizeOverMemSize segment.index segment.filesz segment.memsz) else None))
 
 abbrev pub first_segment_fault : ℕ → ℕ → List Segment → Option ElfFault
 first_segment_fault size ram [] = None

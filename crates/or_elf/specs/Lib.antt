@@ -6,3 +6,4 @@ pub mod Text
 pub mod LabelText
 pub mod Loading
 pub mod Symbols
+pub mod Sentences

@@ -71,7 +71,10 @@ fn check_field(field: u32, found: u32, wanted: u32) -> Result<(), ElfFault>
     if found == wanted {
         Ok(())
     } else {
-        Err(ElfFault::BadHeader { field })
+        Err(ElfFault::BadHeader {
+            field,
+            value: found,
+        })
     }
 }
 
@@ -84,8 +87,12 @@ fn check_header(bytes: &[u8]) -> Result<(), ElfFault>
     check_field(20, word(bytes, 20), 1)?;
     check_field(40, u32::from(half(bytes, 40)), 52)?;
     check_field(42, u32::from(half(bytes, 42)), 32)?;
-    if half(bytes, 44) > 64 {
-        return Err(ElfFault::BadHeader { field: 44 });
+    let count = half(bytes, 44);
+    if count > 64 {
+        return Err(ElfFault::BadHeader {
+            field: 44,
+            value: u32::from(count),
+        });
     }
     Ok(())
 }
@@ -162,16 +169,20 @@ fn check_segment(size: u32, ram: u32, segment: &Segment) -> Result<(), ElfFault>
     ensures { MatchResult result (λ _. segment_fault size ram segment.now ≡ None) (λ fault. segment_fault size ram segment.now ≡ Some fault) }
 {
     let index = segment.index;
-    if segment.filesz != 0
-        && u64::from(segment.offset) + u64::from(segment.filesz) > u64::from(size)
-    {
-        return Err(ElfFault::SegmentOutOfFile { index });
+    let end = u64::from(segment.offset) + u64::from(segment.filesz);
+    if segment.filesz != 0 && end > u64::from(size) {
+        return Err(ElfFault::SegmentOutOfFile { index, end, size });
     }
-    if u64::from(segment.paddr) + u64::from(segment.memsz) > u64::from(ram) {
-        return Err(ElfFault::SegmentOutOfRam { index });
+    let end = u64::from(segment.paddr) + u64::from(segment.memsz);
+    if end > u64::from(ram) {
+        return Err(ElfFault::SegmentOutOfRam { index, end, ram });
     }
     if segment.filesz > segment.memsz {
-        return Err(ElfFault::FileSizeOverMemSize { index });
+        return Err(ElfFault::FileSizeOverMemSize {
+            index,
+            filesz: segment.filesz,
+            memsz: segment.memsz,
+        });
     }
     Ok(())
 }

@@ -1,4 +1,5 @@
 // Why a file's symbols cannot be read.
+use or_text::{Part, Sentence};
 use thiserror::Error;
 
 /// The first fault of a file's symbols, or that memory ran out.
@@ -20,7 +21,9 @@ pub enum SymFault {
 
 impl SymFault {
     ghost use Rattle.std.specs.Prelude.{◌≡◌};
+    ghost use Rattle.or_text.specs.Sentences.{sentence_text};
     ghost use Rattle.or_elf.specs.Symbols.{symbol_number_of, symbol_place_of};
+    ghost use Rattle.or_elf.specs.Sentences.{symbol_sentence};
 
     /// The fault's number, 1 to 4 in the order of the variants.
     pub fn number(&self) -> u32
@@ -42,6 +45,29 @@ impl SymFault {
             SymFault::BadSections { field } => *field,
             SymFault::BadTable { index } | SymFault::BadName { index } => *index,
             SymFault::NoMemory => 0,
+        }
+    }
+
+    /// What the fault says to people.
+    pub fn sentence(&self) -> Sentence<'static>
+        ensures { sentence_text result ≡ symbol_sentence self.now }
+    {
+        match self {
+            SymFault::BadSections { field: 46 } => Sentence::plain("e_shentsize is not 40"),
+            SymFault::BadSections { .. } => Sentence::plain(
+                "the section headers do not lie within the file",
+            ),
+            SymFault::BadTable { index } => Sentence::one(
+                "the symbol table in section ",
+                Part::Number(u64::from(*index)),
+                ", or the section of its names, is not whole",
+            ),
+            SymFault::BadName { index } => Sentence::one(
+                "the name of symbol ",
+                Part::Number(u64::from(*index)),
+                " has no end",
+            ),
+            SymFault::NoMemory => Sentence::plain("the system gave no more memory"),
         }
     }
 }

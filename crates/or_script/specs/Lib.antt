@@ -3,3 +3,4 @@ pub mod Operands
 pub mod Command
 pub mod Script
 pub mod Last
+pub mod Sentences

@@ -1,7 +1,10 @@
 //! Why a script is refused.
 ghost use Rattle.std.specs.Prelude.{◌≡◌, Some};
+ghost use Rattle.or_text.specs.Sentences.{sentence_text};
 ghost use Rattle.or_script.specs.Script.{number_of_fault, line_of_fault};
+ghost use Rattle.or_script.specs.Sentences.{script_sentence};
 
+use or_text::Sentence;
 use std::alloc::AllocError;
 use thiserror::Error;
 
@@ -38,6 +41,21 @@ impl ScriptFault {
         match self {
             ScriptFault::BadCommand { line } | ScriptFault::OutOfRange { line } => Some(line),
             ScriptFault::NoMemory => None,
+        }
+    }
+
+    /// What the fault says to people.
+    pub fn sentence(self) -> Sentence<'static>
+        ensures { sentence_text result ≡ script_sentence self }
+    {
+        match self {
+            ScriptFault::BadCommand { .. } => Sentence::plain(
+                "the line has none of the forms of a command",
+            ),
+            ScriptFault::OutOfRange { .. } => Sentence::plain(
+                "a core, an address or a number is out of its range, or it is a 17th breakpoint or watchpoint",
+            ),
+            ScriptFault::NoMemory => Sentence::plain("the system gave no more memory"),
         }
     }
 }

@@ -6,6 +6,9 @@ ghost use Rattle.std.specs.Fmt.{digit_glyph, digits, signed_decimal};
 ghost use Rattle.or_text.specs.Hexadecimal.{hexadecimal, word_text, digest_text};
 
 pub mod numerals;
+mod sentence;
+
+pub use sentence::{Clause, Part, Sentence, word_digits};
 
 use std::alloc::AllocError;
 
@@ -38,7 +41,7 @@ pub fn append_signed(value: i32, out: &mut Vec<u8>) -> Result<(), AllocError>
 }
 
 // The digit in capitals, as `A` for 10.
-fn capital(digit: u32) -> u8
+pub(crate) fn capital(digit: u32) -> u8
     requires { digit < 16 }
     ensures { result ≡ digit_glyph true digit }
 {
@@ -94,17 +97,7 @@ pub fn append_word(n: u32, out: &mut Vec<u8>) -> Result<(), AllocError>
     ensures full { OnErr result (vec_capacity out.old < vec_len out.old + length (word_text n)) }
     ensures capacity { vec_capacity out.old ≤ vec_capacity out.new }
 {
-    let digits = [
-        capital(n / 0x1000_0000),
-        capital(n / 0x100_0000 % 16),
-        capital(n / 0x10_0000 % 16),
-        capital(n / 0x1_0000 % 16),
-        capital(n / 0x1000 % 16),
-        capital(n / 0x100 % 16),
-        capital(n / 0x10 % 16),
-        capital(n % 16),
-    ];
-    out.extend_from_slice(&digits)
+    out.extend_from_slice(&word_digits(n))
 }
 
 /// Appends bytes as two lower-case hexadecimal digits each.
