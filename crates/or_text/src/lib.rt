@@ -9,7 +9,6 @@ pub mod numerals;
 mod sentence;
 
 pub use sentence::{Clause, Part, Sentence, word_digits};
-
 use std::alloc::AllocError;
 
 /// Appends a number in decimal, without leading zeros.
