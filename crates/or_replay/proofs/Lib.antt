@@ -9,3 +9,4 @@ pub mod Schedules
 pub mod Followed
 pub mod Followable
 pub mod FirstRefusal
+pub mod BegunTurns

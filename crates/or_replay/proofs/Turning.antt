@@ -50,18 +50,22 @@ turned_at cores place before after bus new_bus is at core world again represents
     (ap (slice_set cores place) made.0, made.1)
 
 -- and the cores stay in order, with room for their steps
-pub order_stays : (cores : List Core) (place : ℕ) (before after : Core) (bus new_bus : BusState) → IsCoreTurned before bus after new_bus
-    → slice_get cores place ≡ Some before → IsInOrder cores bus → IsInOrder (slice_set cores place after) new_bus
-order_stays cores place before after bus new_bus is at order =
-    let fewer = fewer_left cores place before after at is.left in
+pub order_kept : (cores : List Core) (place : ℕ) (before after : Core) (bus new_bus : BusState) → after.number ≡ before.number → left_of after < left_of before → new_bus.cores ≡ bus.cores
+    → bus.spare ≤ new_bus.spare + 1 → slice_get cores place ≡ Some before → IsInOrder cores bus → IsInOrder (slice_set cores place after) new_bus
+order_kept cores place before after bus new_bus number left cores_are room at order =
+    let fewer = fewer_left cores place before after at left in
     record {
-      many = length-set cores place after ∙ order.many ∙ sym is.cores;
+      many = length-set cores place after ∙ order.many ∙ sym cores_are;
       numbered = λ c core found. elim (set_or_old cores place c after core found) [
-        | inl w ↦ ap (λ (k : Core). k.number) w.1 ∙ is.number ∙ order.numbered place before at ∙ sym w.0
+        | inl w ↦ ap (λ (k : Core). k.number) w.1 ∙ number ∙ order.numbered place before at ∙ sym w.0
         | inr w ↦ order.numbered c core w
       ];
-      room = omega (arith, fewer, order.room, is.room);
+      room = omega (arith, fewer, order.room, room);
     }
+
+pub order_stays : (cores : List Core) (place : ℕ) (before after : Core) (bus new_bus : BusState) → IsCoreTurned before bus after new_bus
+    → slice_get cores place ≡ Some before → IsInOrder cores bus → IsInOrder (slice_set cores place after) new_bus
+order_stays cores place before after bus new_bus is at order = order_kept cores place before after bus new_bus is.number is.left is.cores is.room at order
 
 pub steps_lessen : (cores : List Core) (place : ℕ) (before after : Core) (bus new_bus : BusState) → IsCoreTurned before bus after new_bus
     → slice_get cores place ≡ Some before → steps_left (slice_set cores place after) < steps_left cores
@@ -77,7 +81,7 @@ get_is (core ∷ cores) (suc c) default inside = get_is cores c default (omega a
 pub one_core : (cores : List Core) (place : ℕ) (core other : Core) → slice_get cores place ≡ Some core → slice_get cores place ≡ Some other → core ≡ other
 one_core cores place core other at found = let e : Some core ≡ Some other = sym at ∙ found in cc
 
-get_set : (cores : List Core) (place : ℕ) (old new : Core) → slice_get cores place ≡ Some old → slice_get (slice_set cores place new) place ≡ Some new
+pub get_set : (cores : List Core) (place : ℕ) (old new : Core) → slice_get cores place ≡ Some old → slice_get (slice_set cores place new) place ≡ Some new
 get_set [] place old new at = absurd (let b : ⊥ = cc in b)
 get_set (core ∷ cores) zero old new at = refl
 get_set (core ∷ cores) (suc place) old new at = get_set cores place old new at

@@ -6,3 +6,4 @@ pub mod Opening
 pub mod Report
 pub mod Following
 pub mod Watching
+pub mod Stepping

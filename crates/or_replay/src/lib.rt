@@ -8,6 +8,7 @@ pub mod laws;
 mod opening;
 mod readers;
 mod reporting;
+mod stepping;
 mod watching;
 
 pub use board::{Board, Refused};
@@ -15,3 +16,4 @@ pub use failing::{has_failed, is_failure};
 pub use follow::{TurnFault, Unwatched, Watcher};
 pub use opening::OpenFault;
 pub use reporting::{append_stop, core_text, report};
+pub use stepping::Breakpoint;

@@ -1,0 +1,113 @@
+-- Turns that are begun and not ended: behind some steps of a turn only its core differs from the board before it.
+use Rattle.std.specs.Prelude.{◌≡◌, ◌≤◌, ◌<◌, ℕ, zero, suc, ◌+◌, ◌-◌, ◌==◌, ◌&&◌, Bool, true, if◌then◌else◌, List, [], ◌∷◌, ◌++◌, Option, Some, None, drop, slice_get, slice_set, option_and_then}
+use Rattle.std.specs.List.{list_any}
+use Rattle.or_model.specs.Core.{Core}
+use Rattle.or_model.specs.World.{World}
+use Rattle.or_model.specs.Step.{private_step}
+use Rattle.or_model.specs.Trace.{trace_within, bus_trace, turn_trace}
+use Rattle.or_model.specs.Turn.{Board, turn, turn_begun, begun_within, board_turned}
+use Rattle.or_bus.specs.State.{BusState}
+use Rattle.or_bus.specs.Represents.{Represents}
+use Rattle.or_replay.specs.Board.{IsBoard, left_of}
+use Rattle.or_replay.specs.declared.stepping.Breakpoint.{Breakpoint}
+use Rattle.or_replay.specs.declared.stepping.Pause.{Pause}
+use Rattle.or_replay.specs.declared.stepping.Pause.TheVariants.{Hit, Begun}
+
+-- the core after so many private steps
+unfoldable pub stepped : ℕ → Core → Core
+stepped zero core = core
+stepped (suc n) core = private_step (stepped n core)
+
+-- the core of a breakpoint; none is every core
+abbrev pub is_core_of : Option ℕ → ℕ → Bool
+is_core_of None core = true
+is_core_of (Some c) core = core == c
+
+-- a step of the core that leaves its pc there hits the breakpoint
+abbrev pub is_hit : ℕ → ℕ → Breakpoint → Bool
+is_hit core pc point = pc == point.pc && is_core_of point.core core
+
+-- it hits one of the breakpoints
+abbrev pub hits_any : List Breakpoint → ℕ → ℕ → Bool
+hits_any points core pc = list_any (is_hit core pc) points
+
+-- the first place of a list that passes a test, counted from n
+abbrev pub first_from : {X : Type 0} → (X → Bool) → ℕ → List X → Option ℕ
+first_from test n [] = None
+first_from test n (x ∷ xs) = if test x then Some n else first_from test (n + 1) xs
+
+-- The first step of a turn of core c, behind so many, that hits a breakpoint and is not the turn's last: the pc that it
+-- leaves is the one before the next step, which stands in the trace.
+unfoldable pub step_hit : List Breakpoint → ℕ → Core → ℕ → Option ℕ
+step_hit points c core steps = first_from (hits_any points c) (steps + 1) (drop (steps + 1) (turn_trace core))
+
+unfoldable pub board_step_hit : List Breakpoint → Board → ℕ → ℕ → Option ℕ
+board_step_hit points before c steps = option_and_then (λ core. step_hit points c core steps) (slice_get before.cores c)
+
+-- the board before a turn of core c, with the core behind so many steps of it
+abbrev pub with_steps : Board → ℕ → ℕ → Core → Board
+with_steps before c steps core = record { cores = slice_set before.cores c (stepped steps core); world = before.world }
+
+unfoldable pub board_stepped : Board → ℕ → ℕ → Option Board
+board_stepped before c steps = option_and_then (λ core. Some (with_steps before c steps core)) (slice_get before.cores c)
+
+-- the pcs before the steps that are left, with at most so many private ones
+abbrev pub rest_trace : ℕ → Core → List ℕ
+rest_trace left core = trace_within left core ++ bus_trace (begun_within left core)
+
+-- the core has made so many steps of its turn, all of them private
+pub record IsInside (first : Core) (steps : ℕ) (core : Core) : Type 0 where
+  pub few : steps ≤ 256
+  pub core_is : core ≡ stepped steps first
+  pub trace : drop steps (turn_trace first) ≡ rest_trace (256 - steps) core
+  pub begun : turn_begun first ≡ begun_within (256 - steps) core
+
+-- and goes on
+pub record GoesOn (first : Core) (steps : ℕ) (core : Core) : Type 0 where
+  pub inside : IsInside first steps core
+  pub runs : core.stop ≡ None
+  pub fewer : steps < 256
+
+-- the private steps of a turn ended at a breakpoint, or are all made
+abbrev pub IsPaused : List Breakpoint → ℕ → Core → ℕ → Pause → Core → Type 0
+IsPaused points c first steps (Hit made) core = (step_hit points c first steps ≡ Some made) × GoesOn first made core
+IsPaused points c first steps (Begun follows) core = (step_hit points c first steps ≡ None) × (turn_begun first ≡ record { core = core; follows = follows })
+
+-- a step on the bus follows
+abbrev pub Follows : Pause → Type 0
+Follows (Hit made) = ⊥
+Follows (Begun follows) = follows ≡ true
+
+-- the steps of the core that follow by themselves
+abbrev pub steps_ahead : Pause → ℕ
+steps_ahead (Hit made) = 0
+steps_ahead (Begun follows) = if follows then 1 else 0
+
+-- a core was taken to the first such breakpoint, or through its turn
+abbrev pub IsCoreUntil : List Breakpoint → ℕ → Core → ℕ → Option ℕ → BusState → Core → BusState → Type 0
+IsCoreUntil points c first steps None bus new_core new_bus =
+    (step_hit points c first steps ≡ None) × ((world : World) → Represents bus world → (new_core ≡ (turn first world).core) × Represents new_bus (turn first world).world)
+IsCoreUntil points c first steps (Some made) bus new_core new_bus = (step_hit points c first steps ≡ Some made) × (GoesOn first made new_core × (new_bus ≡ bus))
+
+-- what keeps the cores of a board in order, with room for their steps
+pub record KeepsOrder (core : Core) (bus : BusState) (new_core : Core) (new_bus : BusState) : Type 0 where
+  pub number : new_core.number ≡ core.number
+  pub left : left_of new_core < left_of core
+  pub cores : new_bus.cores ≡ bus.cores
+  pub room : bus.spare ≤ new_bus.spare + 1
+
+-- the board before a turn of core c, of which so many steps are made
+pub record HasBegun (before : Board) (c steps : ℕ) (cores : List Core) (bus : BusState) : Type 0 where
+  pub first : Core
+  pub at : slice_get before.cores c ≡ Some first
+  pub running : first.stop ≡ None
+  pub core : Core
+  pub goes_on : GoesOn first steps core
+  pub cores_are : cores ≡ slice_set before.cores c core
+  pub represents : Represents bus before.world
+
+-- core c of the board was taken to the first such breakpoint, or through its turn
+abbrev pub IsTurnedUntil : List Breakpoint → Board → ℕ → ℕ → Option ℕ → List Core → BusState → Type 0
+IsTurnedUntil points before c steps None cores bus =
+    (board_step_hit points before c steps ≡ None) × ((next : Board) × ((board_turned before c ≡ Some next) × IsBoard cores bus next))
+IsTurnedUntil points before c steps (Some made) cores bus = (board_step_hit points before c steps ≡ Some made) × HasBegun before c made cores bus
