@@ -8,9 +8,12 @@ ghost use Rattle.or_command_line.specs.Command.{command_of, program_command, sho
 mod names;
 mod options;
 mod programs;
+mod reading;
 mod runs;
+mod usage;
 
 use or_words::Config;
+pub use usage::explain;
 
 /// The options of a run.
 #[derive(Clone, Copy)]

@@ -1,0 +1,240 @@
+//! Why words are no command.
+ghost use Rattle.std.specs.Prelude.{◌≡◌, ◌≤◌, length, codes};
+ghost use Rattle.or_text.specs.Sentences.{sentence_text};
+ghost use Rattle.or_command_line.specs.Words.{texts};
+ghost use Rattle.or_command_line.specs.Reading.{shown, SoFar};
+ghost use Rattle.or_command_line.specs.Usage.{start, image_apart, with_image, recorded_words, report_apart, with_report, schedule_apart, with_schedule, run_words, run_usage, replay_usage, session_words, debug_usage, back_usage, recorded_usage, asm_usage, dis_usage, workload_words, gen_usage, bench_usage, program_usage, usage_sentence};
+
+use crate::reading::{
+    Reading, SoFar, Value, then_apart, then_end, then_file, then_flag, then_input, then_number,
+    then_option,
+};
+use or_text::{Part, Sentence};
+
+const CORES: Value = Value::Number { low: 1, high: 8 };
+
+const STAY: Value = Value::Number { low: 1, high: 4096 };
+
+// The words from the first on.
+fn start(words: &[String]) -> SoFar<'_>
+    ensures { shown result ≡ start (texts words.now) }
+{
+    Ok(Reading {
+        last: "",
+        rest: words,
+    })
+}
+
+// `IMAGE INPUT SCHED`.
+fn recorded_words<'a>(verb: &'a str, words: &'a [String]) -> SoFar<'a>
+    ensures { shown result ≡ recorded_words verb.now (texts words.now) }
+{
+    let so_far = then_file(verb, "IMAGE", start(words));
+    let so_far = then_input(verb, so_far);
+    then_file(verb, "SCHED", so_far)
+}
+
+// A report's name differs from these.
+#[tactic(auto, unfolding(crate::specs::Usage::report_apart))]
+fn report_apart<'a>(
+    verb: &'a str,
+    image: &'a str,
+    input: &'a str,
+    schedule: &'a str,
+    report: &'a str,
+    so_far: SoFar<'a>,
+) -> SoFar<'a>
+    ensures { shown result ≡ report_apart verb.now image.now input.now schedule.now report.now (shown so_far.entry) }
+{
+    let so_far = then_apart(verb, report, image, "IMAGE and REPORT", so_far);
+    let so_far = then_apart(verb, report, input, "INPUT and REPORT", so_far);
+    then_apart(verb, report, schedule, "SCHED and REPORT", so_far)
+}
+
+// A report's name differs from the others.
+fn with_report<'a>(verb: &'a str, words: &'a [String], so_far: SoFar<'a>) -> SoFar<'a>
+    ensures { shown result ≡ with_report verb.now (texts words.now) (shown so_far.entry) }
+{
+    match words {
+        [image, input, schedule, report, ..] => report_apart(
+            verb,
+            image.as_str(),
+            input.as_str(),
+            schedule.as_str(),
+            report.as_str(),
+            so_far,
+        ),
+        _ => so_far,
+    }
+}
+
+// A schedule's name differs from these.
+#[tactic(auto, unfolding(crate::specs::Usage::schedule_apart))]
+fn schedule_apart<'a>(
+    image: &'a str,
+    input: &'a str,
+    schedule: &'a str,
+    so_far: SoFar<'a>,
+) -> SoFar<'a>
+    ensures { shown result ≡ schedule_apart image.now input.now schedule.now (shown so_far.entry) }
+{
+    let so_far = then_apart("run", schedule, image, "IMAGE and SCHED", so_far);
+    then_apart("run", schedule, input, "INPUT and SCHED", so_far)
+}
+
+// A run also writes the schedule.
+fn with_schedule<'a>(words: &'a [String], so_far: SoFar<'a>) -> SoFar<'a>
+    ensures { shown result ≡ with_schedule (texts words.now) (shown so_far.entry) }
+{
+    match words {
+        [image, input, schedule, ..] => {
+            schedule_apart(image.as_str(), input.as_str(), schedule.as_str(), so_far)
+        }
+        _ => so_far,
+    }
+}
+
+fn run_words(words: &[String]) -> SoFar<'_>
+    ensures { shown result ≡ run_words (texts words.now) }
+{
+    let so_far = then_file("run", "REPORT", recorded_words("run", words));
+    let so_far = with_schedule(words, with_report("run", words, so_far));
+    let so_far = then_option("run", "--cores", CORES, so_far);
+    let budget = Value::Number {
+        low: 1,
+        high: 67_108_864,
+    };
+    let so_far = then_option("run", "--budget", budget, so_far);
+    let ram = Value::Number { low: 1, high: 256 };
+    let so_far = then_option("run", "--ram", ram, so_far);
+    let so_far = then_option("run", "--pic", Value::Latched, so_far);
+    let so_far = then_option("run", "--stay", STAY, so_far);
+    then_flag("--status", so_far)
+}
+
+fn replay_usage(words: &[String]) -> Sentence<'_>
+    ensures { sentence_text result ≡ replay_usage (texts words.now) }
+{
+    let so_far = then_file("replay", "REPORT", recorded_words("replay", words));
+    then_end("replay", words, with_report("replay", words, so_far))
+}
+
+// `IMAGE INPUT SCHED SCRIPT`.
+fn session_words<'a>(verb: &'a str, words: &'a [String]) -> SoFar<'a>
+    ensures { shown result ≡ session_words verb.now (texts words.now) }
+{
+    then_file(verb, "SCRIPT", recorded_words(verb, words))
+}
+
+fn back_usage(words: &[String]) -> Sentence<'_>
+    ensures { sentence_text result ≡ back_usage (texts words.now) }
+{
+    let every = Value::Number {
+        low: 1,
+        high: 536_870_912,
+    };
+    let so_far = then_option("back", "--every", every, session_words("back", words));
+    then_end("back", words, so_far)
+}
+
+fn recorded_usage<'a>(verb: &'a str, words: &'a [String]) -> Sentence<'a>
+    ensures { sentence_text result ≡ recorded_usage verb.now (texts words.now) }
+{
+    then_end(verb, words, recorded_words(verb, words))
+}
+
+// An image's name differs from the source's.
+#[tactic(auto, unfolding(crate::specs::Usage::image_apart))]
+fn image_apart<'a>(source: &'a str, image: &'a str, so_far: SoFar<'a>) -> SoFar<'a>
+    ensures { shown result ≡ image_apart source.now image.now (shown so_far.entry) }
+{
+    then_apart("asm", image, source, "SRC and IMAGE", so_far)
+}
+
+// The image differs from the source.
+fn with_image<'a>(words: &'a [String], so_far: SoFar<'a>) -> SoFar<'a>
+    ensures { shown result ≡ with_image (texts words.now) (shown so_far.entry) }
+{
+    match words {
+        [source, image, ..] => image_apart(source.as_str(), image.as_str(), so_far),
+        _ => so_far,
+    }
+}
+
+fn asm_usage(words: &[String]) -> Sentence<'_>
+    ensures { sentence_text result ≡ asm_usage (texts words.now) }
+{
+    let so_far = then_file("asm", "IMAGE", then_file("asm", "SRC", start(words)));
+    then_end("asm", words, with_image(words, so_far))
+}
+
+fn dis_usage(words: &[String]) -> Sentence<'_>
+    ensures { sentence_text result ≡ dis_usage (texts words.now) }
+{
+    then_end("dis", words, then_file("dis", "IMAGE", start(words)))
+}
+
+// `SEED CORES ROUNDS`.
+fn workload_words<'a>(verb: &'a str, words: &'a [String]) -> SoFar<'a>
+    ensures { shown result ≡ workload_words verb.now (texts words.now) }
+{
+    let seed = Value::Number {
+        low: 0,
+        high: 4_294_967_295,
+    };
+    let so_far = then_number(verb, "SEED", seed, start(words));
+    let so_far = then_number(verb, "CORES", CORES, so_far);
+    let rounds = Value::Number {
+        low: 1,
+        high: 100_000,
+    };
+    then_number(verb, "ROUNDS", rounds, so_far)
+}
+
+fn gen_usage(words: &[String]) -> Sentence<'_>
+    ensures { sentence_text result ≡ gen_usage (texts words.now) }
+{
+    let so_far = then_file("gen", "SRC", workload_words("gen", words));
+    then_end("gen", words, so_far)
+}
+
+fn bench_usage(words: &[String]) -> Sentence<'_>
+    ensures { sentence_text result ≡ bench_usage (texts words.now) }
+{
+    let so_far = then_file("bench", "SCHED", workload_words("bench", words));
+    let so_far = then_option("bench", "--stay", STAY, so_far);
+    then_end("bench", words, so_far)
+}
+
+// Of the commands that run, write or read programs, and of the names of none.
+fn program_usage<'a>(verb: &'a str, words: &'a [String]) -> Sentence<'a>
+    ensures { sentence_text result ≡ program_usage verb.now (texts words.now) }
+{
+    match verb {
+        "run" => then_end("run", words, run_words(words)),
+        "bench" => bench_usage(words),
+        "gen" => gen_usage(words),
+        "asm" => asm_usage(words),
+        "dis" => dis_usage(words),
+        _ => Sentence::one("there is no command ", Part::Text(verb), ""),
+    }
+}
+
+/// Why these words are no command: which of them is wrong, and what it has to be. It reads them as `parse` does, and tells of the
+/// first that is wrong.
+#[tactic(auto, unfolding(crate::specs::Usage::usage_sentence))]
+pub fn explain(words: &[String]) -> Sentence<'_>
+    ensures { sentence_text result ≡ usage_sentence (texts words.now) }
+{
+    let Some((verb, rest)) = words.split_first() else {
+        return Sentence::plain("the command is missing: or1k --help has them all");
+    };
+    match verb.as_str() {
+        "replay" => replay_usage(rest),
+        "debug" => then_end("debug", rest, session_words("debug", rest)),
+        "back" => back_usage(rest),
+        "race" => recorded_usage("race", rest),
+        "prof" => recorded_usage("prof", rest),
+        verb => program_usage(verb, rest),
+    }
+}
