@@ -1,6 +1,7 @@
 // A command line as the grammar reads it: the command with the names of its files and its numbers.
 use crate::fault::CaseFault;
-use or_command_line::{Command, Recorded, Run, RunOptions, Workload, parse};
+use or_command_line::{Command, Hunt, HuntOptions, Recorded, Run, RunOptions, Workload, parse};
+use or_words::Config;
 
 fn print_run<R: Print>(rt: &R, run: &Run<'_>) -> Result<(), CaseFault> {
     let Run {
@@ -19,9 +20,36 @@ fn print_run<R: Print>(rt: &R, run: &Run<'_>) -> Result<(), CaseFault> {
         "run {image} {input} {schedule} {report} cores {} budget {}",
         config.cores, config.budget
     )?;
-    let form = if config.latched { "latched" } else { "level" };
+    let form = form(config);
     print!(rt; " ram {} pic {form} stay {stay}", config.ram)?;
     println!(rt; "{}", if *status { " status" } else { "" })?;
+    Ok(())
+}
+
+// The form of the PIC.
+fn form(config: &Config) -> &'static str {
+    if config.latched { "latched" } else { "level" }
+}
+
+fn print_hunt<R: Print>(rt: &R, hunt: &Hunt<'_>) -> Result<(), CaseFault> {
+    let Hunt {
+        image,
+        input,
+        schedule,
+        report,
+        options,
+    } = hunt;
+    let HuntOptions {
+        config,
+        seed,
+        tries,
+    } = options;
+    print!(rt;
+        "hunt {image} {input} {schedule} {report} cores {} budget {}",
+        config.cores, config.budget
+    )?;
+    let form = form(config);
+    println!(rt; " ram {} pic {form} seed {seed} tries {tries}", config.ram)?;
     Ok(())
 }
 
@@ -53,6 +81,7 @@ fn print_workload<R: Print>(
 fn print_command<R: Print>(rt: &R, command: &Command<'_>) -> Result<(), CaseFault> {
     match command {
         Command::Run(run) => return print_run(rt, run),
+        Command::Hunt(hunt) => return print_hunt(rt, hunt),
         Command::Gen { workload, source } => {
             print_workload(rt, "gen", workload, source)?;
             println!(rt; "")?;

@@ -3,17 +3,19 @@ use Rattle.std.specs.Prelude.{ℕ, Bool, List, [], ◌∷◌, ◌&&◌, if◌the
 use Rattle.std.specs.Str.{bytes_eq}
 use Rattle.or_words.specs.Settings.{Fits}
 use Rattle.or_command_line.specs.declared.RunOptions.{RunOptions}
+use Rattle.or_command_line.specs.declared.HuntOptions.{HuntOptions}
 use Rattle.or_command_line.specs.declared.Workload.{Workload}
 use Rattle.or_command_line.specs.declared.Command.{Command}
-use Rattle.or_command_line.specs.declared.Command.TheVariants.{Run as IsRun, Replay as IsReplay, Asm as IsAsm, Dis as IsDis, Debug as IsDebug, Gen as IsGen, Bench as IsBench, Back as IsBack, Race as IsRace, Prof as IsProf}
+use Rattle.or_command_line.specs.declared.Command.TheVariants.{Run as IsRun, Hunt as IsHunt, Replay as IsReplay, Asm as IsAsm, Dis as IsDis, Debug as IsDebug, Gen as IsGen, Bench as IsBench, Back as IsBack, Race as IsRace, Prof as IsProf}
 use Rattle.or_command_line.specs.Words.{is_name, differ, IsFileName}
-use Rattle.or_command_line.specs.Names.{Names, Recorded, recorded_names, run_names, are_recorded, is_report, are_run_names, AreRecorded, IsReport, AreWritten, IsAssembly}
-use Rattle.or_command_line.specs.Settings.{run_options_of, stay_alone_of, symbols_alone_of, every_of, FitsStay, FitsEvery}
+use Rattle.or_command_line.specs.Names.{Names, Recorded, recorded_names, run_names, hunt_names, are_recorded, is_report, are_run_names, AreRecorded, IsReport, AreWritten, IsAssembly}
+use Rattle.or_command_line.specs.Settings.{run_options_of, hunt_options_of, stay_alone_of, every_of, FitsStay, FitsHunt, FitsEvery, symbols_alone_of}
 use Rattle.or_command_line.specs.Workloads.{workload_of, FitsWorkload}
 
 -- a command as contracts see it
 pub data Shown : Type 0 where
   run : Names → RunOptions → Shown
+  hunt : Names → HuntOptions → Shown
   replay : Recorded → List ℕ → Shown
   asm : List ℕ → List ℕ → Bool → Shown
   dis : List ℕ → Shown
@@ -35,6 +37,18 @@ run_where names options = if are_run_names names then run_with names (run_option
 unfoldable pub run_of : List (List ℕ) → Option Shown
 run_of (image ∷ input ∷ schedule ∷ report ∷ options) = run_where (record { image = image; input = input; schedule = schedule; report = report }) options
 run_of _ = None
+
+abbrev pub hunt_with : Names → Option HuntOptions → Option Shown
+hunt_with names None = None
+hunt_with names (Some options) = Some (hunt names options)
+
+-- `IMAGE INPUT SCHED REPORT [--cores N] [--budget N] [--ram N] [--pic latched] [--seed N] [--tries N]`
+abbrev pub hunt_where : Names → List (List ℕ) → Option Shown
+hunt_where names options = if are_run_names names then hunt_with names (hunt_options_of options) else None
+
+unfoldable pub hunt_of : List (List ℕ) → Option Shown
+hunt_of (image ∷ input ∷ schedule ∷ report ∷ options) = hunt_where (record { image = image; input = input; schedule = schedule; report = report }) options
+hunt_of _ = None
 
 -- `IMAGE INPUT SCHED REPORT`
 abbrev pub replay_where : Recorded → List ℕ → Option Shown
@@ -120,6 +134,7 @@ bench_of _ = None
 abbrev pub program_command : List ℕ → List (List ℕ) → Option Shown
 program_command verb words =
     if bytes_eq verb (codes "run") then run_of words else
+    if bytes_eq verb (codes "hunt") then hunt_of words else
     if bytes_eq verb (codes "bench") then bench_of words else
     if bytes_eq verb (codes "gen") then gen_of words else
     if bytes_eq verb (codes "asm") then asm_of words else
@@ -140,6 +155,7 @@ command_of (verb ∷ words) =
 -- what the code's commands show
 abbrev pub shown_command : Command → Shown
 shown_command (IsRun words) = run (run_names words) words.options
+shown_command (IsHunt words) = hunt (hunt_names words) words.options
 shown_command (IsReplay files report) = replay (recorded_names files) report.now
 shown_command (IsAsm source image symbols) = asm source.now image.now symbols
 shown_command (IsDis image) = dis image.now
@@ -153,6 +169,7 @@ shown_command (IsProf files) = prof (recorded_names files)
 -- the names of a command are names of files, the written ones differ from each other one, and its numbers are in their ranges
 abbrev pub AreNamesOf : Shown → Type 0
 AreNamesOf (run names options) = AreWritten names × Fits options.config × FitsStay options.stay
+AreNamesOf (hunt names options) = AreWritten names × Fits options.config × FitsHunt options
 AreNamesOf (replay files report) = AreRecorded files × IsReport files report
 AreNamesOf (asm source image symbols) = IsAssembly source image
 AreNamesOf (dis image) = IsFileName image

@@ -2,6 +2,7 @@
 use Rattle.std.specs.Prelude.{ℕ, List, Bool, false, ◌≡◌, ◌≢◌, ◌&&◌, codes}
 use Rattle.std.specs.Str.{bytes_eq}
 use Rattle.or_command_line.specs.declared.Run.{Run}
+use Rattle.or_command_line.specs.declared.Hunt.{Hunt}
 use Rattle.or_command_line.specs.declared.Recorded.{Recorded as RecordedWords}
 use Rattle.or_command_line.specs.Words.{is_name, is_input, differ, IsFileName}
 
@@ -28,6 +29,13 @@ recorded_names words = record { image = words.image.now; input = words.input.now
 
 abbrev pub run_names : Run → Names
 run_names words = record { image = words.image.now; input = words.input.now; schedule = words.schedule.now; report = words.report.now }
+
+-- the files of a run, its report beside them
+abbrev pub written_names : RecordedWords → List ℕ → Names
+written_names words report = record { image = words.image.now; input = words.input.now; schedule = words.schedule.now; report = report }
+
+abbrev pub hunt_names : Hunt → Names
+hunt_names words = record { image = words.image.now; input = words.input.now; schedule = words.schedule.now; report = words.report.now }
 
 -- all words are names
 abbrev pub are_recorded : Recorded → Bool

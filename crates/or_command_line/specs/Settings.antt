@@ -4,6 +4,7 @@ use Rattle.std.specs.Str.{bytes_eq}
 use Rattle.or_words.specs.declared.Config.{Config}
 use Rattle.or_words.specs.declared.limits.TheConstants.{MOST_CORES, MOST_BUDGET, MOST_RAM, MOST_STAY}
 use Rattle.or_command_line.specs.declared.RunOptions.{RunOptions}
+use Rattle.or_command_line.specs.declared.HuntOptions.{HuntOptions}
 use Rattle.or_text.specs.Numerals.{decimal_of}
 
 abbrev pub with_rest : {A : Type 0} → List (List ℕ) → Option A → Option (A × List (List ℕ))
@@ -58,9 +59,10 @@ abbrev pub config_with_cores : Option (ℕ × List (List ℕ)) → Option (Confi
 config_with_cores None = None
 config_with_cores (Some (cores, rest)) = config_with_budget cores (option_of (codes "--budget") 1000000 rest)
 
--- the settings that the options give, and the words behind them; none where a setting is out of its range
-unfoldable pub config_of : List (List ℕ) → Option (Config × List (List ℕ))
-config_of words = config_with_cores (option_of (codes "--cores") 1 words)
+-- the settings that the options give, with so many cores where none says it, and the words behind them; none where a setting
+-- is out of its range
+unfoldable pub config_of : ℕ → List (List ℕ) → Option (Config × List (List ℕ))
+config_of cores words = config_with_cores (option_of (codes "--cores") cores words)
 
 -- the most turns of a stay at the bus: 1 to 4096
 abbrev pub stay_fits : ℕ → Bool
@@ -92,7 +94,33 @@ options_with_config (Some (config, rest)) = options_with_stay config (stay_of re
 
 -- the options of a run; none where a word is no option here, or a number is out of its range
 unfoldable pub run_options_of : List (List ℕ) → Option RunOptions
-run_options_of words = options_with_config (config_of words)
+run_options_of words = options_with_config (config_of 1 words)
+
+-- seeds of 32 bits, and how many: 1 to 1000000
+abbrev pub hunt_fits : ℕ → ℕ → Bool
+hunt_fits seed tries = nat_le seed 4293967295 && (nat_le 1 tries && nat_le tries 1000000)
+
+abbrev pub hunt_options_with_tries : Config → ℕ → Option (ℕ × List (List ℕ)) → Option HuntOptions
+hunt_options_with_tries config seed None = None
+hunt_options_with_tries config seed (Some (tries, [])) = if hunt_fits seed tries then Some (record { config = config; seed = seed; tries = tries }) else None
+hunt_options_with_tries config seed (Some (tries, word ∷ rest)) = None
+
+abbrev pub hunt_options_with_seed : Config → Option (ℕ × List (List ℕ)) → Option HuntOptions
+hunt_options_with_seed config None = None
+hunt_options_with_seed config (Some (seed, rest)) = hunt_options_with_tries config seed (option_of (codes "--tries") 1000 rest)
+
+abbrev pub hunt_options_with_config : Option (Config × List (List ℕ)) → Option HuntOptions
+hunt_options_with_config None = None
+hunt_options_with_config (Some (config, rest)) = hunt_options_with_seed config (option_of (codes "--seed") 1 rest)
+
+-- the options of a hunt: the settings, and `[--seed N] [--tries N]`; none where a word is no option here, or a number is out of its range
+unfoldable pub hunt_options_of : List (List ℕ) → Option HuntOptions
+hunt_options_of words = hunt_options_with_config (config_of 2 words)
+
+pub record FitsHunt (options : HuntOptions) : Type 0 where
+  pub some : 1 ≤ options.tries
+  pub limit : options.tries ≤ 1000000
+  pub seed : options.seed ≤ 4293967295
 
 abbrev pub stay_without_rest : Option (ℕ × List (List ℕ)) → Option ℕ
 stay_without_rest None = None

@@ -37,6 +37,28 @@ pub struct Run<'a> {
     pub options: RunOptions,
 }
 
+/// The options of a hunt.
+#[derive(Clone, Copy)]
+pub struct HuntOptions {
+    /// The settings of the board.
+    pub config: Config,
+    /// The first seed: 0 to 4293967295.
+    pub seed: u32,
+    /// How many seeds are tried: 1 to 1000000.
+    pub tries: u32,
+}
+
+/// `IMAGE INPUT SCHED REPORT` and the options of a hunt.
+#[derive(Clone, Copy)]
+pub struct Hunt<'a> {
+    pub image: &'a str,
+    /// The file of the console's input; `-` for none.
+    pub input: &'a str,
+    pub schedule: &'a str,
+    pub report: &'a str,
+    pub options: HuntOptions,
+}
+
 /// `IMAGE INPUT SCHED`: the files of a recorded run.
 #[derive(Clone, Copy)]
 pub struct Recorded<'a> {
@@ -58,6 +80,7 @@ pub struct Workload {
 #[derive(Clone, Copy)]
 pub enum Command<'a> {
     Run(Run<'a>),
+    Hunt(Hunt<'a>),
     Replay {
         files: Recorded<'a>,
         report: &'a str,
@@ -126,6 +149,7 @@ fn parse_program<'a>(verb: &str, words: &'a [String]) -> Option<Command<'a>>
 {
     match verb {
         "run" => runs::parse_run(words),
+        "hunt" => runs::parse_hunt(words),
         "bench" => programs::parse_bench(words),
         "gen" => programs::parse_gen(words),
         "asm" => programs::parse_asm(words),

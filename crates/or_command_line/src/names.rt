@@ -1,7 +1,7 @@
 //! Which words are names of files.
 ghost use Rattle.std.specs.Prelude.{◌≡◌, IsTrue};
 ghost use Rattle.or_command_line.specs.Words.{is_name, is_input, IsFileName};
-ghost use Rattle.or_command_line.specs.Names.{recorded_names, are_recorded, is_report, AreRecorded, IsReport};
+ghost use Rattle.or_command_line.specs.Names.{recorded_names, written_names, are_recorded, is_report, are_run_names, AreRecorded, IsReport, AreWritten};
 
 use crate::Recorded;
 
@@ -38,4 +38,13 @@ pub(crate) fn is_report(files: &Recorded<'_>, report: &str) -> bool
 {
     is_name(report)
         && ((report != files.image && report != files.input) && report != files.schedule)
+}
+
+/// The words of a run are names, and those that it writes differ from each other one.
+pub(crate) fn are_written(files: &Recorded<'_>, report: &str) -> bool
+    ensures test { result ≡ are_run_names (written_names files.now report.now) }
+    ensures names { IsTrue result → AreWritten (written_names files.now report.now) }
+{
+    (are_recorded(files) && is_report(files, report))
+        && (files.schedule != files.image && files.schedule != files.input)
 }

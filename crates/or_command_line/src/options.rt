@@ -2,9 +2,9 @@
 ghost use Rattle.std.specs.Prelude.{◌≡◌, None, Some, MatchOption, IfSome, IsTrue};
 ghost use Rattle.or_words.specs.Settings.{Fits};
 ghost use Rattle.or_command_line.specs.Words.{texts};
-ghost use Rattle.or_command_line.specs.Settings.{option_of, flag_of, latch_of, config_of, config_fits, stay_of, stay_fits, FitsStay, run_options_of, stay_alone_of, symbols_alone_of, every_of, every_fits, FitsEvery};
+ghost use Rattle.or_command_line.specs.Settings.{option_of, flag_of, latch_of, config_of, config_fits, stay_of, stay_fits, FitsStay, run_options_of, hunt_options_of, hunt_fits, FitsHunt, stay_alone_of, every_of, every_fits, FitsEvery, symbols_alone_of};
 
-use crate::RunOptions;
+use crate::{HuntOptions, RunOptions};
 use or_text::numerals::read_decimal;
 use or_words::Config;
 use or_words::limits::{MOST_BUDGET, MOST_CORES, MOST_RAM, MOST_STAY};
@@ -76,13 +76,13 @@ fn fits(config: &Config) -> bool
             && (1 <= config.ram && config.ram <= MOST_RAM))
 }
 
-// The settings that the options give; the words behind them.
+// The settings that the options give, with so many cores where none says it; the words behind them.
 #[tactic(auto, unfolding(crate::specs::Settings::config_of))]
-fn settings(words: &[String]) -> Option<(Config, &[String])>
-    ensures value { MatchOption result (config_of (texts words.now) ≡ None) (λ found. config_of (texts words.now) ≡ Some (found.0, texts found.1.now)) }
+fn settings(cores: u32, words: &[String]) -> Option<(Config, &[String])>
+    ensures value { MatchOption result (config_of cores (texts words.now) ≡ None) (λ found. config_of cores (texts words.now) ≡ Some (found.0, texts found.1.now)) }
     ensures fits { IfSome result (λ found. Fits found.0) }
 {
-    let Some((cores, rest)) = option("--cores", 1, words) else {
+    let Some((cores, rest)) = option("--cores", cores, words) else {
         return None;
     };
     let Some((budget, rest)) = option("--budget", 1_000_000, rest) else {
@@ -138,7 +138,7 @@ pub(crate) fn run_options(words: &[String]) -> Option<RunOptions>
     ensures fits { IfSome result (λ options. Fits options.config) }
     ensures stay { IfSome result (λ options. FitsStay options.stay) }
 {
-    let Some((config, rest)) = settings(words) else {
+    let Some((config, rest)) = settings(1, words) else {
         return None;
     };
     let Some((stay, rest)) = stay(rest) else {
@@ -151,6 +151,42 @@ pub(crate) fn run_options(words: &[String]) -> Option<RunOptions>
             stay,
             status,
         })
+    } else {
+        None
+    }
+}
+
+// The seeds of a hunt are in their range.
+fn hunt_fits(options: &HuntOptions) -> bool
+    ensures test { result ≡ hunt_fits options.now.seed options.now.tries }
+    ensures fits { IsTrue result → FitsHunt options.now }
+{
+    options.seed <= 4_293_967_295 && (1 <= options.tries && options.tries <= 1_000_000)
+}
+
+/// The options of a hunt.
+#[tactic(auto, unfolding(crate::specs::Settings::hunt_options_of))]
+pub(crate) fn hunt_options(words: &[String]) -> Option<HuntOptions>
+    ensures value { result ≡ hunt_options_of (texts words.now) }
+    ensures fits { IfSome result (λ options. Fits options.config) }
+    ensures range { IfSome result FitsHunt }
+{
+    let Some((config, rest)) = settings(2, words) else {
+        return None;
+    };
+    let Some((seed, rest)) = option("--seed", 1, rest) else {
+        return None;
+    };
+    let Some((tries, rest)) = option("--tries", 1000, rest) else {
+        return None;
+    };
+    let options = HuntOptions {
+        config,
+        seed,
+        tries,
+    };
+    if rest.is_empty() && hunt_fits(&options) {
+        Some(options)
     } else {
         None
     }

@@ -3,11 +3,11 @@ ghost use Rattle.std.specs.Prelude.{◌≡◌, None, Some, MatchOption, IfSome, 
 ghost use Rattle.or_words.specs.Settings.{Fits};
 ghost use Rattle.or_command_line.specs.Words.{texts};
 ghost use Rattle.or_command_line.specs.Names.{run_names, recorded_names, are_run_names, AreRecorded, AreWritten};
-ghost use Rattle.or_command_line.specs.Command.{run_of, replay_of, debug_of, back_of, recorded_of, as_race, as_prof, shown_command, AreNamesOf};
+ghost use Rattle.or_command_line.specs.Command.{run_of, hunt_of, replay_of, debug_of, back_of, recorded_of, as_race, as_prof, shown_command, AreNamesOf};
 
-use crate::names::{are_recorded, is_name, is_report};
-use crate::options::{every, run_options};
-use crate::{Command, Recorded, Run};
+use crate::names::{are_recorded, are_written, is_name, is_report};
+use crate::options::{every, hunt_options, run_options};
+use crate::{Command, Hunt, Recorded, Run};
 
 /// `IMAGE INPUT SCHED REPORT` and options.
 #[tactic(auto, unfolding(crate::specs::Command::run_of))]
@@ -24,14 +24,41 @@ pub(crate) fn parse_run(words: &[String]) -> Option<Command<'_>>
         schedule: schedule.as_str(),
     };
     let report = report.as_str();
-    if !(are_recorded(&files) && is_report(&files, report)) {
-        return None;
-    }
-    if files.schedule == files.image || files.schedule == files.input {
+    if !are_written(&files, report) {
         return None;
     }
     match run_options(options) {
         Some(options) => Some(Command::Run(Run {
+            image: files.image,
+            input: files.input,
+            schedule: files.schedule,
+            report,
+            options,
+        })),
+        None => None,
+    }
+}
+
+/// `IMAGE INPUT SCHED REPORT` and the options of a hunt.
+#[tactic(auto, unfolding(crate::specs::Command::hunt_of))]
+pub(crate) fn parse_hunt(words: &[String]) -> Option<Command<'_>>
+    ensures command { MatchOption result (hunt_of (texts words.now) ≡ None) (λ command. hunt_of (texts words.now) ≡ Some (shown_command command)) }
+    ensures names { IfSome result (λ command. AreNamesOf (shown_command command)) }
+{
+    let [image, input, schedule, report, options @ ..] = words else {
+        return None;
+    };
+    let files = Recorded {
+        image: image.as_str(),
+        input: input.as_str(),
+        schedule: schedule.as_str(),
+    };
+    let report = report.as_str();
+    if !are_written(&files, report) {
+        return None;
+    }
+    match hunt_options(options) {
+        Some(options) => Some(Command::Hunt(Hunt {
             image: files.image,
             input: files.input,
             schedule: files.schedule,
