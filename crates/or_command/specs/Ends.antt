@@ -1,10 +1,10 @@
 -- What a command comes to: its status, and the line that is said.
 use Rattle.std.specs.Prelude.{ℕ, List, []}
 use Rattle.or_command.specs.declared.refusal.Refusal.{Refusal}
-use Rattle.or_command.specs.declared.refusal.Refusal.TheVariants.{Image, Source, Schedule, Script, Symbols}
+use Rattle.or_command.specs.declared.refusal.Refusal.TheVariants.{Image, Source, Schedule, Script, Symbols, NoFailure}
 use Rattle.or_command.specs.declared.outcome.Outcome.{Outcome}
 use Rattle.or_command.specs.declared.outcome.Outcome.TheVariants.{Done, Unread, TooLong, Refused, Unwritten, NoMemory}
-use Rattle.or_command.specs.Lines.{read_line, write_line, long_line, memory_line, image_line, source_line, schedule_line, script_line, symbols_line}
+use Rattle.or_command.specs.Lines.{read_line, write_line, long_line, memory_line, image_line, source_line, schedule_line, script_line, symbols_line, no_failure_line}
 
 -- a check that failed: the status that it gives, and the line
 pub record FailedCheck : Type 0 where
@@ -17,6 +17,7 @@ failed_check (Source name fault line) = record { status = 9; line = source_line 
 failed_check (Schedule name detail) = record { status = 4; line = schedule_line name.now detail }
 failed_check (Script name fault line) = record { status = 10; line = script_line name.now fault line }
 failed_check (Symbols name fault place) = record { status = 12; line = symbols_line name.now fault place }
+failed_check (NoFailure tries) = record { status = 14; line = no_failure_line tries }
 
 -- all was done, or what stopped the command
 pub data CommandEnd : Type 0 where

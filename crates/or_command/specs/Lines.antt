@@ -31,6 +31,13 @@ source_line name fault line = codes "or1k: source " ++ name ++ codes " fault " +
 abbrev pub script_line : List ℕ → ℕ → ℕ → List ℕ
 script_line name fault line = codes "or1k: script " ++ name ++ codes " fault " ++ decimal fault ++ codes " line " ++ decimal line ++ codes "\n"
 
+abbrev pub no_failure_line : ℕ → List ℕ
+no_failure_line tries = codes "or1k: no failure in " ++ decimal tries ++ codes " tries\n"
+
+-- said while a hunt goes on
+abbrev pub tries_line : ℕ → List ℕ
+tries_line tries = codes "or1k: " ++ decimal tries ++ codes " tries, no failure\n"
+
 -- why a recording is refused: where two values stand, the recorded one comes first and then the one that was found
 abbrev pub detail_text : ScheduleDetail → List ℕ
 detail_text (Head line) = codes "head " ++ decimal line

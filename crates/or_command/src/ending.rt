@@ -1,7 +1,7 @@
 // Says how a command ended, and gives its status.
 ghost use Rattle.std.specs.Prelude.{◌≡◌, ◌++◌, codes, decimal};
 ghost use Rattle.or_command.specs.Said.{Said, SaidLine, OnlySays};
-ghost use Rattle.or_command.specs.Lines.{usage_line, schedule_line};
+ghost use Rattle.or_command.specs.Lines.{usage_line, schedule_line, no_failure_line, tries_line};
 ghost use Rattle.or_command.specs.Ends.{end_of, status_of, line_of, failed_check};
 
 use crate::saying::{then_detail, then_number, then_say};
@@ -24,6 +24,16 @@ pub fn say_usage<H: Host>(host: &mut H)
     ensures only { OnlySays (H.state host.old) (H.state host.new) }
 {
     let _ = then_say(host, Ok(()), b"or1k: usage\n");
+}
+
+/// Says how many tries of a hunt were made without a failure. A fault of `say` changes nothing.
+pub fn say_tries<H: Host>(host: &mut H, tries: u32)
+    ensures line { SaidLine (tries_line tries) (H.state host.old) (H.state host.new) }
+    ensures only { OnlySays (H.state host.old) (H.state host.new) }
+{
+    let so_far = then_say(host, Ok(()), b"or1k: ");
+    let so_far = then_number(host, so_far, tries as u64);
+    let _ = then_say(host, so_far, b" tries, no failure\n");
 }
 
 // The status of an outcome.
@@ -50,6 +60,7 @@ fn refusal_status(refusal: Refusal<'_>) -> u8
         Refusal::Schedule { .. } => 4,
         Refusal::Script { .. } => 10,
         Refusal::Symbols { .. } => 12,
+        Refusal::NoFailure { .. } => 14,
     }
 }
 
@@ -85,6 +96,7 @@ fn say_refusal<H: Host>(host: &mut H, refusal: Refusal<'_>) -> Result<(), Failed
         Refusal::Symbols { name, fault, place } => {
             say_fault(host, b"or1k: symbols ", name, fault, b" ", place)
         }
+        Refusal::NoFailure { tries } => say_no_failure(host, tries),
     }
 }
 
@@ -126,6 +138,15 @@ fn say_fault<H: Host>(
     let so_far = then_say(host, so_far, before);
     let so_far = then_number(host, so_far, place);
     then_say(host, so_far, b"\n")
+}
+
+// Says that no try of a hunt failed.
+fn say_no_failure<H: Host>(host: &mut H, tries: u32) -> Result<(), Failed>
+    ensures { Said result (no_failure_line tries) (H.state host.old) (H.state host.new) }
+{
+    let so_far = then_say(host, Ok(()), b"or1k: no failure in ");
+    let so_far = then_number(host, so_far, tries as u64);
+    then_say(host, so_far, b" tries\n")
 }
 
 // Says why a recording is refused.

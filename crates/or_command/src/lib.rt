@@ -8,7 +8,7 @@ mod refusal;
 mod saying;
 mod writing;
 
-pub use ending::{conclude, say_usage};
+pub use ending::{conclude, say_tries, say_usage};
 pub use loading::{Input, LoadStop, load_files};
 pub use outcome::Outcome;
 pub use refusal::{Digests, Refusal, ScheduleDetail};

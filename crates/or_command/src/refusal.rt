@@ -78,4 +78,8 @@ pub enum Refusal<'a> {
         fault: u32,
         place: u64,
     },
+    /// No core failed in so many tries: status 14.
+    NoFailure {
+        tries: u32,
+    },
 }
