@@ -8,6 +8,10 @@ ghost use Rattle.or_command.specs.Leaves.{Silent};
 ghost use Rattle.or_command.specs.Loads.{bytes_of, LoadsAll, LoadsSome};
 ghost use Rattle.or_command_image.specs.Loaded.{image_loads, recorded_loads, image_in, input_in, file_at, recorded_bytes, is_no_input};
 
+mod opened;
+
+pub use opened::{head, refused, write_recorded};
+
 use or_command::{Input, LoadStop, load_files};
 use or_host::Host;
 use or_words::limits::{IMAGE_LIMIT, INPUT_LIMIT, RECORDING_LIMIT};

@@ -1,0 +1,41 @@
+-- What commands have in common that load an image and write a recording and a report.
+use Rattle.std.proofs.Common.{◌≡◌, ◌≢◌, ℕ, ◌≤◌, List, [], ◌∷◌, length, Some, None, Bool, true, false, cond, sym, ap}
+use Rattle.std.specs.Prelude.{Option, codes}
+use Rattle.std.specs.Str.{bytes_eq}
+use Rattle.or_words.specs.declared.limits.TheConstants.{INPUT_LIMIT}
+use Rattle.or_elf.specs.declared.fault.ElfFault.{ElfFault}
+use Rattle.or_elf.specs.Fault.{number_of, place_of}
+use Rattle.or_host.specs.HostState.{HostState}
+use Rattle.or_command.specs.Lines.{image_line}
+use Rattle.or_command.specs.Loads.{AreRead}
+use Rattle.or_command.specs.Writes.{File}
+use Rattle.or_command.specs.Ends.{FailedCheck}
+use Rattle.or_command.specs.Outcomes.{AreApart}
+use Rattle.or_command_image.specs.Loaded.{image_loads, image_in, image_check}
+
+-- an image that was read is within its limit
+pub image_small : (image input : List ℕ) (files : List (List ℕ)) (state : HostState) → AreRead (image_loads image input) files state → length (image_in files) ≤ 67108864
+image_small image input [] state read = absurd read
+image_small image input (file ∷ files) state read = read.1
+
+-- a recording and a report under these names
+abbrev pub written_files : List ℕ → List ℕ → List ℕ → List ℕ → List File
+written_files schedule recording report text = record { name = schedule; text = recording } ∷ record { name = report; text = text } ∷ []
+
+input_apart : (dash : Bool) (input schedule recording report text : List ℕ) → schedule ≢ input → report ≢ input
+    → AreApart (cond dash [] (record { name = input; limit = INPUT_LIMIT } ∷ [])) (written_files schedule recording report text)
+input_apart true input schedule recording report text one other = tt
+input_apart false input schedule recording report text one other = ((λ e. one (sym e), (λ e. other (sym e), tt)), tt)
+
+-- are none of the files that are loaded
+pub written_apart : (image input schedule recording report text : List ℕ) → schedule ≢ image → schedule ≢ input → report ≢ image → report ≢ input
+    → AreApart (image_loads image input) (written_files schedule recording report text)
+written_apart image input schedule recording report text schedule_image schedule_input report_image report_input =
+    ((λ e. schedule_image (sym e), (λ e. report_image (sym e), tt)),
+    input_apart (bytes_eq input (codes "-")) input schedule recording report text schedule_input report_input)
+
+-- the check of an image has status 3
+pub image_status : (name : List ℕ) (found : Option ElfFault) (fault : FailedCheck) → image_check name found ≡ Some fault → fault.status ≡ 3
+image_status name None fault e = absurd (let b : ⊥ = cc in b)
+image_status name (Some found) fault e =
+    let same : record { status = 3; line = image_line name (number_of found) (place_of found) } ≡ fault = cc in sym (ap (λ (f : FailedCheck). f.status) same)

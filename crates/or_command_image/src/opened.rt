@@ -1,0 +1,71 @@
+//! What the commands do that open an image and write a recording: its head, how a fault of the image ends the command, and
+//! what is written.
+ghost use Rattle.std.specs.Prelude.{◌≡◌, ◌≢◌, [], ◌∷◌, ℕ, List};
+ghost use Rattle.or_elf.specs.Fault.{elf_fault};
+ghost use Rattle.or_host.specs.Calls.{IsName};
+ghost use Rattle.or_command.specs.Leaves.{Silent};
+ghost use Rattle.or_command.specs.Ends.{end_of};
+ghost use Rattle.or_command.specs.Finishing.{WriteEnds};
+ghost use Rattle.or_command.specs.Answered.{Stops};
+ghost use Rattle.or_command_image.specs.Loaded.{image_check};
+ghost use Rattle.or_command_image.specs.Opened.{head_of, RunFails};
+
+use or_command::{Outcome, Output, Refusal, write_outputs};
+use or_host::Host;
+use or_replay::OpenFault;
+use or_sched::Head;
+use or_words::Config;
+use sha2::{Digest, Sha256};
+
+/// The head of a recording.
+#[tactic(auto, unfolding(crate::specs::Opened::head_of))]
+pub fn head(config: &Config, image: &[u8], input: &[u8]) -> Head
+    ensures { result ≡ head_of config.now image.now input.now }
+{
+    Head {
+        config: *config,
+        image: Sha256::digest(image),
+        input: Sha256::digest(input),
+    }
+}
+
+/// How the command ends on an image of this name that can't be opened.
+pub fn refused(name: &str, fault: OpenFault) -> Outcome<'_>
+    ensures { (image : List ℕ) (ram : ℕ) → RunFails image ram fault → Stops (image_check name.now (elf_fault image ram)) (end_of result) }
+{
+    match fault {
+        OpenFault::NoMemory => Outcome::NoMemory,
+        OpenFault::Elf(fault) => Outcome::Refused(Refusal::Image {
+            name,
+            fault: fault.number(),
+            place: u64::from(fault.place()),
+        }),
+    }
+}
+
+/// Writes a recording and what the report tells to the files of these names, and then text to standard output.
+pub fn write_recorded<'a, H: Host>(
+    schedule: &'a str,
+    report: &'a str,
+    recording: &[u8],
+    told: &[u8],
+    text: &[u8],
+    host: &mut H,
+) -> Outcome<'a>
+    requires schedule { IsName schedule.now }
+    requires report { IsName report.now }
+    requires apart { schedule.now ≢ report.now }
+    ensures outcome { WriteEnds (record { name = schedule.now; text = recording.now } ∷ record { name = report.now; text = told.now } ∷ [])
+        text.now (end_of result) (H.state host.old) (H.state host.new) }
+    ensures silent { Silent (H.state host.old) (H.state host.new) }
+{
+    let recording = Output {
+        name: schedule,
+        text: recording,
+    };
+    let report = Output {
+        name: report,
+        text: told,
+    };
+    write_outputs(host, &[recording, report], text)
+}
