@@ -14,7 +14,7 @@ use Rattle.or_command.specs.Outcomes.{AreApart}
 use Rattle.or_command_source.specs.Assembly.{source_check}
 use Rattle.or_command_source.proofs.Ending.{source_status}
 use Rattle.or_command_run.specs.Bench.{bench_loads, bench_check, bench_config, bench_name, bench_source, program_check, BenchWrites}
-use Rattle.or_command_run.proofs.Runs.{image_status}
+use Rattle.or_command_image.proofs.Images.{image_status}
 
 -- no file is loaded that could be one of those that are written
 pub bench_apart : (numbers : Workload) (schedule : List ℕ) (files : List (List ℕ)) (outs : List File) (console : List ℕ)

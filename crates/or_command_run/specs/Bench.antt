@@ -17,7 +17,8 @@ use Rattle.or_command.specs.Writes.{File}
 use Rattle.or_command.specs.Ends.{FailedCheck}
 use Rattle.or_command_image.specs.Loaded.{image_check}
 use Rattle.or_command_source.specs.Assembly.{source_check, IsFileOf}
-use Rattle.or_command_run.specs.Recorded.{head_of, IsRecorded}
+use Rattle.or_command_image.specs.Opened.{head_of}
+use Rattle.or_command_run.specs.Recorded.{IsRecorded}
 
 abbrev pub bench_loads : List Load
 bench_loads = []

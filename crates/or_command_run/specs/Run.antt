@@ -17,7 +17,8 @@ use Rattle.or_command.specs.Ends.{FailedCheck}
 use Rattle.or_command.specs.Outcomes.{LeavesAll}
 use Rattle.or_command.specs.Answered.{Answers, IsDecided}
 use Rattle.or_command_image.specs.Loaded.{image_loads, image_in, input_in, image_check}
-use Rattle.or_command_run.specs.Recorded.{head_of, IsRecorded}
+use Rattle.or_command_image.specs.Opened.{head_of}
+use Rattle.or_command_run.specs.Recorded.{IsRecorded}
 
 abbrev pub run_loads : Names → List Load
 run_loads names = image_loads names.image names.input

@@ -17,13 +17,13 @@ ghost use Rattle.or_command.specs.Finishing.{WriteEnds};
 ghost use Rattle.or_command.specs.Answered.{FinishEnds};
 ghost use Rattle.or_asm.specs.Source.{source_of, Refuses};
 ghost use Rattle.or_command_source.specs.Assembly.{IsFileOf};
-ghost use Rattle.or_command_run.specs.Recorded.{head_of, RunFails};
+ghost use Rattle.or_command_image.specs.Opened.{head_of, RunFails};
 ghost use Rattle.or_command_run.specs.Bench.{bench_loads, bench_check, bench_config, bench_source, bench_text, IsBenchFrom, BenchWrites};
 
-use crate::opened::{head, refused};
 use or_asm::AsmFault;
 use or_board::Gate;
 use or_command::{Outcome, Output, write_outputs};
+use or_command_image::{head, refused};
 use or_command_line::Workload;
 use or_command_source::{program_file, refuse_source};
 use or_gen::program;
@@ -103,7 +103,7 @@ fn texts(
 }
 
 // Runs the image of a workload, and makes the texts.
-#[tactic(auto, unfolding(crate::specs::Recorded::head_of))]
+#[tactic(auto, unfolding(or_command_image::specs::Opened::head_of))]
 fn make<R: Threads + Wait + Sync, G: Gate + Sync>(
     rt: &R,
     alloc: Global,

@@ -2,7 +2,6 @@
 #![tactic(auto)]
 
 mod benching;
-mod opened;
 mod running;
 
 pub use benching::bench;

@@ -16,13 +16,12 @@ ghost use Rattle.or_command.specs.Loads.{bytes_of};
 ghost use Rattle.or_command_image.specs.Loaded.{image_in as image_of};
 ghost use Rattle.or_command.specs.Finishing.{WriteEnds};
 ghost use Rattle.or_command.specs.Answered.{FinishEnds};
-ghost use Rattle.or_command_run.specs.Recorded.{RunFails};
+ghost use Rattle.or_command_image.specs.Opened.{RunFails};
 ghost use Rattle.or_command_run.specs.Run.{run_loads, run_check, IsRun, IsRunFrom, RunWrites, run_status};
 
-use crate::opened::{head, refused, write_recorded};
 use or_board::Gate;
 use or_command::{LoadStop, Outcome};
-use or_command_image::{image_in, input_in, load_image};
+use or_command_image::{head, image_in, input_in, load_image, refused, write_recorded};
 use or_command_line::{Run, RunOptions};
 use or_host::Host;
 use or_replay::{OpenFault, has_failed, report};
@@ -97,7 +96,7 @@ fn texts(alloc: Global, head: &Head, closed: Closed) -> Result<RunTexts, NoMemor
 }
 
 // Runs the image with the input, and makes the texts.
-#[tactic(auto, unfolding(crate::specs::Recorded::head_of))]
+#[tactic(auto, unfolding(or_command_image::specs::Opened::head_of))]
 fn make<R: Threads + Wait + Sync, G: Gate + Sync>(
     rt: &R,
     alloc: Global,
@@ -169,7 +168,8 @@ fn write<'a, H: Host>(words: &Run<'a>, texts: &RunTexts, host: &mut H) -> Outcom
     ensures silent { Silent (H.state host.old) (H.state host.new) }
 {
     write_recorded(
-        (words.schedule, words.report),
+        words.schedule,
+        words.report,
         texts.recording.as_slice(),
         texts.report.as_slice(),
         texts.console.as_slice(),

@@ -4,7 +4,7 @@ use Rattle.or_command_image.specs.Loaded.{image_in}
 use Rattle.or_command_line.specs.Names.{run_names}
 use Rattle.or_command.specs.Loads.{bytes_of}
 use Rattle.or_command.specs.Ends.{end_of}
-use Rattle.or_command_run.specs.Recorded.{RunFails}
+use Rattle.or_command_image.specs.Opened.{RunFails}
 use Rattle.or_command_run.specs.Run.{run_check, RunWrites}
 use Rattle.or_command_run.proofs.Stopping.{stops_end}
 use Rattle.or_command_run.proofs.running.finish.Goals as goal
