@@ -14,8 +14,8 @@ or1k --version         prints the version
 
 Exit status: 0 success, 2 invalid command line, 3 faulty image, 4 refused recording, 5 a file could not be read, 6 an
 output could not be written, 7 out of memory, 8 a file is too long, 9 faulty source, 10 faulty script, 12 faulty symbols,
-13 an argument is no text, 15 a core failed (run --status). With any other status than 0 and 15 a line on standard error
-says why.
+13 an argument is no text, 14 no failure found (hunt), 15 a core failed (run --status). With any other status than 0 and 15
+a line on standard error says why.
 ";
 
 /// A command: its name, its words, what it does, and an example.
@@ -26,7 +26,7 @@ struct Help {
     example: &'static str,
 }
 
-const COMMANDS: [Help; 10] = [
+const COMMANDS: [Help; 11] = [
     Help {
         name: "run",
         words: "IMAGE INPUT SCHED REPORT [--cores N] [--budget N] [--ram N] [--pic latched] [--stay N] [--status]",
@@ -43,6 +43,20 @@ const COMMANDS: [Help; 10] = [
     Options follow the file names, in this order.
 ",
         example: "or1k run program.elf - program.sched program.rep --cores 2 --ram 1 --status",
+    },
+    Help {
+        name: "hunt",
+        words: "IMAGE INPUT SCHED REPORT [--cores N] [--budget N] [--ram N] [--pic latched] [--seed N] [--tries N]",
+        text: "    Looks for an order of turns in which a core fails: it uses up its budget, or its exit value is not 0. Draws a schedule
+    of each seed, runs IMAGE by it from the start, and takes the first seed that fails. Writes the recording of its run to
+    SCHED, the final cores to REPORT, and to standard output the seed and the cores that fail. Exits with 14 if none fails.
+    --cores N        cores of the board, 1 to 8, default 2
+    --budget N, --ram N, --pic latched    as for run
+    --seed N         the first seed, 0 to 4293967295, default 1
+    --tries N        how many seeds are tried, 1 to 1000000, default 1000
+    Options follow the file names, in this order.
+",
+        example: "or1k hunt program.elf - program.sched program.rep --ram 1 && or1k replay program.elf - program.sched again.rep",
     },
     Help {
         name: "replay",

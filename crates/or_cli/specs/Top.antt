@@ -2,7 +2,7 @@
 use Rattle.std.specs.Prelude.{ℕ, List, Bool, true, false, Option, Some, None, if◌then◌else◌}
 use Rattle.or_host.specs.HostState.{HostState}
 use Rattle.or_command_line.specs.Command.{Shown, command_of}
-use Rattle.or_command_line.specs.Command.Shown.{run, replay, asm, dis, debug, gen, bench, back, race, prof}
+use Rattle.or_command_line.specs.Command.Shown.{run, hunt, replay, asm, dis, debug, gen, bench, back, race, prof}
 use Rattle.or_command.specs.Lines.{usage_line}
 use Rattle.or_command.specs.Said.{SaidLine}
 use Rattle.or_command.specs.Outcomes.{LeavesAll}
@@ -16,6 +16,7 @@ use Rattle.or_command_back.specs.Back.{back_loads, BackVerdict, BackWrites}
 use Rattle.or_recorded.specs.Race.{race_loads, RaceVerdict, RaceWrites}
 use Rattle.or_command_prof.specs.Prof.{prof_loads, ProfVerdict, ProfWrites}
 use Rattle.or_command_run.specs.Run.{RunAnswers, RunDecided}
+use Rattle.or_command_hunt.specs.Hunt.{HuntAnswers, HuntDecided}
 use Rattle.or_command_run.specs.Bench.{bench_loads, bench_check, BenchWrites}
 
 -- the commands that work cores on threads, and so wait
@@ -47,6 +48,7 @@ pub record IsUsage (old new : HostState) : Type 0 where
 -- what stands after a command with this status
 abbrev pub CommandEnds : Shown → ℕ → HostState → HostState → Type 0
 CommandEnds (run names options) status old new = RunAnswers names options status old new
+CommandEnds (hunt names options) status old new = HuntAnswers names options status old new
 CommandEnds (replay files report) status old new = AnswersBy (replay_loads files) (RecordedVerdict files) (ReplayWrites files report) LeavesAll status old new
 CommandEnds (asm source image symbols) status old new = Answers (asm_loads source) (asm_check source) (AsmWrites image symbols) LeavesAll status old new
 CommandEnds (dis image) status old new = Answers (dis_loads image) (dis_check image) DisWrites (DisLacks image) status old new
@@ -60,6 +62,7 @@ CommandEnds (prof files) status old new = AnswersBy (prof_loads files) (ProfVerd
 -- where no fault came, the files decide the status, or memory ran out; of a run 15 may stand for 0 where that is asked for
 abbrev pub IsComplete : Shown → ℕ → HostState → HostState → Type 0
 IsComplete (run names options) status old new = RunDecided names options status old new
+IsComplete (hunt names options) status old new = HuntDecided names options status old new
 IsComplete (replay files report) status old new = IsDecidedBy (replay_loads files) (RecordedVerdict files) (ReplayWrites files report) LeavesAll status old new
 IsComplete (asm source image symbols) status old new = IsDecided (asm_loads source) (asm_check source) (AsmWrites image symbols) LeavesAll status old new
 IsComplete (dis image) status old new = IsDecided (dis_loads image) (dis_check image) DisWrites (DisLacks image) status old new

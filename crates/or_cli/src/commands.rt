@@ -3,11 +3,12 @@ ghost use Rattle.std.specs.Prelude.{◌≡◌, ◌≢◌, ◌↔◌, ◌⊎◌, 
 ghost use Rattle.or_command_line.specs.Words.{texts};
 ghost use Rattle.or_command_line.specs.Command.{command_of};
 ghost use Rattle.or_words.specs.Settings.{Fits};
-ghost use Rattle.or_command_line.specs.Names.{run_names, recorded_names, AreWritten, AreRecorded, IsReport};
+ghost use Rattle.or_command_line.specs.Names.{run_names, hunt_names, recorded_names, AreWritten, AreRecorded, IsReport};
 ghost use Rattle.or_command.specs.Outcomes.{LeavesAll};
 ghost use Rattle.or_command.specs.Answered.{Answers, AnswersBy, IsDecided, IsDecidedBy};
 ghost use Rattle.or_recorded.specs.Replay.{replay_loads, RecordedVerdict, ReplayWrites};
 ghost use Rattle.or_command_run.specs.Run.{RunAnswers, RunDecided};
+ghost use Rattle.or_command_hunt.specs.Hunt.{HuntAnswers, HuntDecided};
 ghost use Rattle.or_command_run.specs.Bench.{bench_loads, bench_check, BenchWrites};
 ghost use Rattle.or_command_line.specs.Words.{IsFileName};
 ghost use Rattle.or_command_line.specs.Workloads.{FitsWorkload};
@@ -17,14 +18,15 @@ ghost use Rattle.or_recorded.specs.Race.{race_loads, RaceVerdict, RaceWrites};
 ghost use Rattle.or_recorded.specs.Files.{names_of, AreNames, loads};
 ghost use Rattle.or_recorded.specs.Command.{Verdict, Writes};
 ghost use Rattle.or_command_back.specs.Back.{back_loads, BackVerdict, BackWrites};
-ghost use Rattle.or_command_line.specs.Settings.{FitsStay, FitsEvery};
+ghost use Rattle.or_command_line.specs.Settings.{FitsStay, FitsHunt, FitsEvery};
 ghost use Rattle.or_cli.specs.Top.{threaded_command, lone_command, IsUsage, CommandEnds, IsComplete};
 
 use or_board::Gate;
 use or_command::{conclude, say_usage};
 use or_command_back::back;
 use or_command_debug::debug;
-use or_command_line::{Command, Recorded, Run, Workload, parse};
+use or_command_hunt::hunt;
+use or_command_line::{Command, Hunt, Recorded, Run, Workload, parse};
 use or_command_prof::prof;
 use or_command_run::{bench, run, run_status};
 use or_command_source::{asm, dis, generate};
@@ -52,6 +54,19 @@ fn run_command<R: Threads + Wait + Sync, H: Host, G: Gate + Sync>(
     let ended = run(rt, alloc, words, host, gate);
     let status = conclude(host, ended.outcome);
     run_status(words.options.status, ended.failed, status)
+}
+
+// Looks for a schedule on which a program fails, and says how that ended.
+fn hunt_command<H: Host>(alloc: Global, words: &Hunt<'_>, host: &mut H) -> u8
+    requires names { AreWritten (hunt_names words.now) }
+    requires fits { Fits words.now.options.config }
+    requires range { FitsHunt words.now.options }
+    ensures ends { HuntAnswers (hunt_names words.now) words.now.options result (H.state host.old) (H.state host.new) }
+    ensures complete { HuntDecided (hunt_names words.now) words.now.options result (H.state host.old) (H.state host.new) }
+    ensures command { result ≢ 2 }
+{
+    let outcome = hunt(alloc, words, host);
+    conclude(host, outcome)
 }
 
 // Runs a workload, and says how that ended.
@@ -220,6 +235,7 @@ pub fn top_alone<H: Host>(alloc: Global, words: &[String], host: &mut H) -> u8
 {
     match parse(words) {
         Some(Command::Replay { files, report }) => replay_command(alloc, &files, report, host),
+        Some(Command::Hunt(words)) => hunt_command(alloc, &words, host),
         Some(
             Command::Asm {
                 source,
@@ -246,7 +262,7 @@ pub fn top_alone<H: Host>(alloc: Global, words: &[String], host: &mut H) -> u8
 /// Does what the words ask of the outside, and answers the status: 0 where all was done, 2 where the words are no command,
 /// 3 where the image has a fault, 4 where the recording is refused, 5 where a file was not read, 6 where an output was not
 /// written, 7 for want of memory, 8 where a file is too long, 9 where the source has a fault, 10 where the script has one,
-/// 12 where the symbols of a profiled image have one, 15 where all was done, a core failed and `--status` of `run` asks for that.
+/// 12 where the symbols of a profiled image have one, 14 where no try of a hunt failed, 15 where all was done, a core failed and `--status` of `run` asks for that.
 /// The line of a status other than 0 and 15 is said.
 pub fn top<R: Threads + Wait + Sync, H: Host, G: Gate + Sync>(
     rt: &R,

@@ -16,13 +16,14 @@ use std::process::ExitCode;
 use std::sync::Wait;
 use std::thread::Threads;
 
-const FILES: [&str; 6] = [
+const FILES: [&str; 7] = [
     "host.cases",
     "images.cases",
     "line.cases",
     "source.cases",
     "run.cases",
     "look.cases",
+    "hunt.cases",
 ];
 
 // Does what the lines of a file say.

@@ -30,9 +30,10 @@ input_apart false input schedule recording report text one other = ((λ e. one (
 -- are none of the files that are loaded
 pub written_apart : (image input schedule recording report text : List ℕ) → schedule ≢ image → schedule ≢ input → report ≢ image → report ≢ input
     → AreApart (image_loads image input) (written_files schedule recording report text)
-written_apart image input schedule recording report text schedule_image schedule_input report_image report_input =
-    ((λ e. schedule_image (sym e), (λ e. report_image (sym e), tt)),
-    input_apart (bytes_eq input (codes "-")) input schedule recording report text schedule_input report_input)
+written_apart image input schedule recording report text schedule_image schedule_input report_image report_input = (
+  (λ e. schedule_image (sym e), (λ e. report_image (sym e), tt)),
+  input_apart (bytes_eq input (codes "-")) input schedule recording report text schedule_input report_input,
+)
 
 -- the check of an image has status 3
 pub image_status : (name : List ℕ) (found : Option ElfFault) (fault : FailedCheck) → image_check name found ≡ Some fault → fault.status ≡ 3

@@ -11,7 +11,6 @@ ghost use Rattle.or_command_image.specs.Loaded.{image_loads, recorded_loads, ima
 mod opened;
 
 pub use opened::{head, refused, write_recorded};
-
 use or_command::{Input, LoadStop, load_files};
 use or_host::Host;
 use or_words::limits::{IMAGE_LIMIT, INPUT_LIMIT, RECORDING_LIMIT};

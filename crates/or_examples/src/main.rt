@@ -20,7 +20,7 @@ enum Line {
 
 use Line::{Command, Exits};
 
-const LINES: [Line; 32] = [
+const LINES: [Line; 44] = [
     Command("asm hello/hello.s hello.elf"),
     Command("run hello.elf - hello.sched hello.rep --ram 1"),
     Command("dis hello.elf"),
@@ -34,6 +34,18 @@ const LINES: [Line; 32] = [
     ),
     Command("asm tlb_miss/tlb_miss.s tlb_miss.elf"),
     Command("run tlb_miss.elf - tlb_miss.sched tlb_miss.rep --ram 1"),
+    Command("asm hunt/lost_update.s lost_update.elf"),
+    Command("hunt lost_update.elf - hunt.sched hunt.rep --ram 1"),
+    Command("replay lost_update.elf - hunt.sched again.rep"),
+    Exits("again.rep"),
+    Command("asm hunt/flag.s flag.elf"),
+    Command("hunt flag.elf - hunt.sched hunt.rep --ram 1"),
+    Command("replay flag.elf - hunt.sched again.rep"),
+    Exits("again.rep"),
+    Command("asm hunt/list_aba.s list_aba.elf"),
+    Command("hunt list_aba.elf - hunt.sched hunt.rep --ram 1"),
+    Command("replay list_aba.elf - hunt.sched again.rep"),
+    Exits("again.rep"),
     Command("run c/hello.elf - c.sched c.rep --ram 1"),
     Exits("c.rep"),
     Command("prof c/hello.elf - c.sched"),

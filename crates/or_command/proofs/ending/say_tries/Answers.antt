@@ -14,5 +14,5 @@ pub returns-clause-only : goal.returns-clause-only
 returns-clause-only g c =
     let s = g.H.Host.state c.args.host.now in
     let said : Said c.then_say.result (tries_line c.args.tries) s (g.H.Host.state c.then_say.new.host) =
-        c.then_say.ensures s _ (c.then_number-so_far.ensures s _ (c.then_say-so_far.ensures s [] (said_none tt s))) in
+    c.then_say.ensures s _ (c.then_number-so_far.ensures s _ (c.then_say-so_far.ensures s [] (said_none tt s))) in
     said.only

@@ -1,0 +1,41 @@
+use Rattle.or_command_line.specs.Names.{hunt_names}
+use Rattle.or_command.specs.Ends.{end_of}
+use Rattle.or_command.specs.Outcomes.{LeavesAll}
+use Rattle.or_command.proofs.OutcomesLemmas.{said_leaves_all}
+use Rattle.or_command.proofs.AnsweredLemmas.{answered_by, decided_by, not_two_by}
+use Rattle.or_command_hunt.specs.Hunt.{hunt_loads, HuntVerdict, HuntWrites}
+use Rattle.or_command_hunt.proofs.Hunts.{hunt_not_two}
+use Rattle.or_cli.proofs.commands.hunt_command.Goals as goal
+
+pub returns-clause-ends : goal.returns-clause-ends
+returns-clause-ends g c =
+    let names = hunt_names c.args.words.now in
+    let options = c.args.words.now.options in
+    let ends = c.hunt-outcome.ensures in
+    let b = g.H.Host.state c.hunt-outcome.new.host in
+    let d = g.H.Host.state c.conclude.new.host in record {
+      heard = ends.heard;
+      tries = ends.tries;
+      answers = answered_by (hunt_loads names) (HuntVerdict names options) (HuntWrites names options) LeavesAll (end_of c.hunt-outcome.result) c.conclude.result ends.heard b d
+          (λ left. said_leaves_all ends.heard b d left c.conclude.ensures.only) c.conclude.ensures.status ends.outcome ends.silent
+          c.conclude.ensures.line c.conclude.ensures.only;
+    }
+
+pub returns-clause-complete : goal.returns-clause-complete
+returns-clause-complete g c =
+    let names = hunt_names c.args.words.now in
+    let options = c.args.words.now.options in
+    let ends = returns-clause-ends g c in record {
+      heard = ends.heard;
+      tries = ends.tries;
+      decided = decided_by (hunt_loads names) (HuntVerdict names options) (HuntWrites names options) LeavesAll c.conclude.result ends.heard
+          (g.H.Host.state c.conclude.new.host) ends.answers;
+    }
+
+pub returns-clause-command : goal.returns-clause-command
+returns-clause-command g c =
+    let names = hunt_names c.args.words.now in
+    let options = c.args.words.now.options in
+    let ends = returns-clause-ends g c in
+    not_two_by (hunt_loads names) (HuntVerdict names options) (HuntWrites names options) LeavesAll c.conclude.result ends.heard
+    (g.H.Host.state c.conclude.new.host) (hunt_not_two names options) ends.answers

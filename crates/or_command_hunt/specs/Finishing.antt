@@ -1,0 +1,34 @@
+-- How a hunt ends before its line is said.
+use Rattle.std.specs.Prelude.{ℕ, List}
+use Rattle.or_host.specs.HostState.{HostState}
+use Rattle.or_command_line.specs.declared.HuntOptions.{HuntOptions}
+use Rattle.or_command_line.specs.Names.{Names}
+use Rattle.or_command.specs.Leaves.{Silent}
+use Rattle.or_command.specs.Ends.{CommandEnd}
+use Rattle.or_command.specs.Outcomes.{LeavesAll, OutcomeBy}
+use Rattle.or_command.specs.Finishing.{GoesOn}
+use Rattle.or_replay.specs.Start.{start}
+use Rattle.or_hunt.specs.Failing.{IsLeastFailing}
+use Rattle.or_command_image.specs.Opened.{head_of}
+use Rattle.or_command_hunt.specs.Hunt.{hunt_loads, HuntVerdict, HuntWrites, IsHunted}
+use Rattle.or_command_hunt.specs.Tries.{IsHeard}
+
+-- the texts of the least seed of the range that fails
+pub record IsFound (options : HuntOptions) (image input recording report text : List ℕ) : Type 0 where
+  pub seed : ℕ
+  pub least : IsLeastFailing (start options.config image input) options.seed options.tries seed
+  pub hunted : IsHunted (start options.config image input) (head_of options.config image input) options.seed seed recording report text
+
+-- with the files that were loaded
+pub record HuntGoesOn (names : Names) (options : HuntOptions) (files : List (List ℕ)) (end : CommandEnd) (old new : HostState) : Type 0 where
+  pub heard : HostState
+  pub tries : IsHeard options.tries old heard
+  pub ends : GoesOn (HuntVerdict names options) (HuntWrites names options) files end heard new
+  pub silent : Silent heard new
+
+-- the whole command
+pub record HuntEnds (names : Names) (options : HuntOptions) (end : CommandEnd) (old new : HostState) : Type 0 where
+  pub heard : HostState
+  pub tries : IsHeard options.tries old heard
+  pub outcome : OutcomeBy (hunt_loads names) (HuntVerdict names options) (HuntWrites names options) LeavesAll end heard new
+  pub silent : Silent heard new
