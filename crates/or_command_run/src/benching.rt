@@ -1,5 +1,5 @@
 //! The command `bench`.
-ghost use Rattle.std.specs.Prelude.{◌≡◌, ◌≤◌, ◌++◌, [], ◌∷◌, None, IfOk, MatchResult, OnOk, codes, decimal, length};
+ghost use Rattle.std.specs.Prelude.{false, ◌≡◌, ◌≤◌, ◌++◌, [], ◌∷◌, None, IfOk, MatchResult, OnOk, codes, decimal, length};
 ghost use Rattle.or_sched.specs.Schedule.{IsSchedule, AreMarks};
 ghost use Rattle.or_model.specs.Turn.{Board as BoardModel};
 ghost use Rattle.or_replay.specs.Start.{start};
