@@ -5,5 +5,4 @@ mod benching;
 mod running;
 
 pub use benching::bench;
-pub use opened::{head, refused, write_recorded};
 pub use running::{RunEnd, run, run_status};
