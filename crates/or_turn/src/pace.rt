@@ -46,10 +46,16 @@ impl Pace {
         }
     }
 
-    /// A turn of the core has ended. The distances between the traces grow, so that a loop of several accesses is found too.
+    /// A turn of the core has ended. A long turn leaves no trace: behind private steps the core may come to one place again
+    /// without an access, and it waits for nobody. The distances between the traces grow, so that a loop of several accesses is
+    /// found too.
     pub(crate) fn ended(&mut self, core: &Core, bus: &Bus) {
         self.length = core.steps().wrapping_sub(self.steps);
         self.steps = core.steps();
+        if self.length > FEW_STEPS {
+            self.spins = false;
+            return;
+        }
         let trace = Trace {
             pc: core.place().pc,
             last: bus.last(),

@@ -91,9 +91,11 @@ impl Shared {
         let number = unit.cores.as_slice()[0].number();
         wait_for_bus(rt, top, &self.waiters, &mut unit.seat, number);
         let mut transfer = top.exchange(&mut unit.seat, 0, None).unwrap();
+        let began = transfer.schedule.len() as u64;
         let core = &mut unit.cores.as_mut_slice()[0];
         stay(core, &mut transfer, follows, &mut unit.pace, most);
         let end = StayEnd {
+            began,
             turns: transfer.schedule.len() as u64,
             most,
             spins: unit.pace.spins(),

@@ -22,10 +22,14 @@ const SLEEPS: u64 = 2;
 
 const ANYBODY: u64 = 0;
 
+/// It has begun to wait since the last stay ended, and no holder has noted the number of turns.
+const NOT_NOTED: u64 = u64::MAX;
+
 /// What is known of a stay at its end.
 #[derive(Drop)]
 pub(crate) struct StayEnd {
-    /// How many turns have been made by all cores.
+    /// How many turns had been made by all cores when it began, and when it ended.
+    pub(crate) began: u64,
     pub(crate) turns: u64,
     /// How many turns it could have at most.
     pub(crate) most: u32,
@@ -37,12 +41,10 @@ pub(crate) struct StayEnd {
 #[derive(Drop)]
 pub(crate) struct Waiters {
     says: [AtomicU64; 8],
-    /// How many turns had been made when it began to wait.
+    /// How many turns had been made when it began to wait, which the next holder notes.
     since: [AtomicU64; 8],
     /// For whom the bus is kept: the number of a core plus 1.
     kept_for: AtomicU64,
-    /// How many turns had been made when the bus was given back.
-    turns: AtomicU64,
     cores: u32,
     /// How often who waits tries before it sleeps.
     pub(crate) looks: u32,
@@ -68,7 +70,6 @@ impl Waiters {
             says: words(BUSY),
             since: words(0),
             kept_for: AtomicU64::new(ANYBODY),
-            turns: AtomicU64::new(0),
             cores,
             looks: 0,
         }
@@ -90,8 +91,7 @@ impl Waiters {
 
     /// The core begins to wait.
     pub(crate) fn begin(&self, core: u32) {
-        self.since(core)
-            .store(self.turns.load(Ordering::SeqCst), Ordering::SeqCst);
+        self.since(core).store(NOT_NOTED, Ordering::SeqCst);
         self.says(core).store(LOOKS, Ordering::SeqCst);
     }
 
@@ -109,6 +109,25 @@ impl Waiters {
     /// The core waits no longer: it has the bus.
     pub(crate) fn end(&self, core: u32) {
         self.says(core).store(BUSY, Ordering::SeqCst);
+    }
+
+    // Notes how many turns had been made when those began to wait of whom it is not known. The holder does so, since a count
+    // that each stay changes would cost each holder a cache miss.
+    fn note(&self, began: u64) {
+        for core in 0..self.cores {
+            if self.says(core).load(Ordering::SeqCst) != BUSY
+                && self.since(core).load(Ordering::SeqCst) == NOT_NOTED
+            {
+                self.since(core).store(began, Ordering::SeqCst);
+            }
+        }
+    }
+
+    // Stores for whom the bus is kept, where that changes: a store costs those who wait a cache miss.
+    fn keep_for(&self, kept_for: u64) {
+        if self.kept_for.load(Ordering::SeqCst) != kept_for {
+            self.kept_for.store(kept_for, Ordering::SeqCst);
+        }
     }
 
     // The core that has waited longest, and how many turns had been made when it began.
@@ -153,9 +172,9 @@ impl Waiters {
     /// The holder is about to give the bus back. A waiter is passed by fewer turns than two stays of each other core have, and
     /// woken at half of them. Answers who is to be woken, if the bus is kept for it, or soon will be.
     pub(crate) fn choose(&self, end: &StayEnd) -> Option<u32> {
-        self.turns.store(end.turns, Ordering::SeqCst);
+        self.note(end.began);
         let Some((core, since)) = self.longest() else {
-            self.kept_for.store(ANYBODY, Ordering::SeqCst);
+            self.keep_for(ANYBODY);
             return None;
         };
         let others = self.cores.saturating_sub(1) as u64;
@@ -163,7 +182,7 @@ impl Waiters {
         let passed = end.turns.saturating_sub(since);
         let kept = end.spins || passed >= most;
         let kept_for = if kept { core as u64 + 1 } else { ANYBODY };
-        self.kept_for.store(kept_for, Ordering::SeqCst);
+        self.keep_for(kept_for);
         if kept || passed >= most / 2 {
             Some(core)
         } else {
