@@ -1,12 +1,12 @@
 -- The names of labels take no more bytes than their source.
-use Rattle.std.proofs.Common.{◌≡◌, ◌∙◌, refl, ap, ℕ, zero, suc, ◌+◌, ◌≤◌, Bool, true, false, cond, eqb, List, [], ◌∷◌, length, map, Option, Some, None, arith, sum_by}
+use Rattle.std.proofs.Common.{◌≡◌, refl, ℕ, ◌+◌, ◌≤◌, Bool, true, false, cond, eqb, List, [], ◌∷◌, length, map, Some, None, arith, sum_by}
 use Rattle.std.specs.Prelude.{◌==◌, ◌&&◌, ◌||◌, not}
 use Rattle.std.specs.List.{onto_first, position_or_len}
 use Rattle.std.proofs.lemmas.List.{length-take}
 use Rattle.std.proofs.lemmas.List.Sums.{sum_by-cons}
 use Rattle.or_elf.specs.LabelText.{LabelEntry, names_size}
 use Rattle.or_asm_read.specs.Labels.{Labels}
-use Rattle.or_asm_read.specs.Cuts.{is_label, is_blank, trimmed_start, before, has, body_of, has_label, label_of}
+use Rattle.or_asm_read.specs.Cuts.{is_label, is_blank, trimmed_start, before, has, body_of, has_label}
 use Rattle.or_asm.specs.Lines.{lines_of, place_after, with_label, labels_from}
 use Rattle.or_asm.specs.First.{all_labels}
 use Rattle.or_asm.specs.Symbols.{entry_of, places_of, symbols_of}

@@ -1,5 +1,5 @@
 -- The entries of labels, by their places in rising order.
-use Rattle.std.proofs.Common.{◌≡◌, ◌∙◌, refl, sym, ap, ℕ, ◌-◌, List, [], ◌∷◌, map, Option, Some, None, Bor, subst}
+use Rattle.std.proofs.Common.{◌≡◌, ◌∙◌, refl, ap, ℕ, ◌-◌, List, [], ◌∷◌, map, Option, Some, None, Bor, subst}
 use Rattle.std.specs.Prelude.{IsPermutation}
 use Rattle.or_elf.specs.LabelText.{LabelEntry}
 use Rattle.or_asm.specs.Symbols.{next_among, size_within, size_at, end_at, places_of, entry_of, symbols_of}

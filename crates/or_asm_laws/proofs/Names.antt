@@ -1,5 +1,5 @@
 -- What the names of the instructions are made of.
-use Rattle.std.proofs.Common.{◌≡◌, ◌∙◌, refl, sym, ap, ℕ, Bool, true, false, cond, ◌&&◌, eqb, List, [], ◌∷◌, drop, codes, Some, None, inl, inr}
+use Rattle.std.proofs.Common.{◌≡◌, ◌∙◌, refl, sym, ap, ℕ, Bool, true, false, cond, ◌&&◌, List, [], ◌∷◌, drop, codes, Some, None, inl, inr}
 use Rattle.std.specs.Prelude.{not, ◌==◌, ◌⊎◌, bit_and}
 use Rattle.std.specs.List.{list_all}
 use Rattle.std.specs.Str.{bytes_eq}

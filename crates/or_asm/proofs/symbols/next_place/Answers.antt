@@ -1,4 +1,4 @@
-use Rattle.std.proofs.Common.{◌≡◌, ◌∙◌, sym, ap, ℕ, ◌+◌, min, Ok, Err, rules, arith}
+use Rattle.std.proofs.Common.{◌∙◌, sym, Ok, Err, rules}
 use Rattle.or_asm.proofs.NextPlace.{next_found}
 use Rattle.or_asm.proofs.symbols.next_place.Goals as goal
 
