@@ -16,7 +16,7 @@ use Rattle.or_asm_read.specs.declared.statements.Statement.{Statement}
 use Rattle.or_asm_read.specs.declared.statements.Statement.TheVariants.{Nothing, Place, Word}
 use Rattle.or_asm_read.specs.Cuts.{is_clean, label_of, statement_of, trimmed, name_part, operands_part}
 use Rattle.or_asm_read.specs.Numbers.{number_of}
-use Rattle.or_asm_read.specs.Operands.{int_le, is_empty, value_at}
+use Rattle.or_asm_read.specs.Operands.{is_empty, value_at, bits_of}
 use Rattle.or_asm_read.specs.Labels.{Labels}
 use Rattle.or_asm_read.specs.Statements.{org_at, word_at, made_of, insn_at, named_at, statement_at}
 use Rattle.or_asm.specs.Lines.{lines_of, is_org, puts_word, set_place, place_after}
@@ -44,13 +44,9 @@ org_places None = tt
 org_places (Some (negsuc n)) = tt
 org_places (Some (pos n)) = place_or (nat_lt n 0x10000000 && n % 4 == 0) n
 
-word_or : (b : Bool) (n : ℕ) → OnlyWords true (cond b (Ok (Word n)) (Err OutOfRange))
-word_or true n = refl
-word_or false n = tt
-
-pub word_words : (r : Result ℤ Fault) → OnlyWords true (word_at r)
+pub word_words : (r : Result ℕ Fault) → OnlyWords true (word_at r)
 word_words (Err e) = tt
-word_words (Ok z) = word_or (int_le (negsuc 2147483647) z && int_le z (pos 4294967295)) _
+word_words (Ok word) = refl
 
 made_words : (m : Insn) (r : Result Operands Fault) → OnlyWords true (made_of m r)
 made_words m (Ok o) = refl
@@ -153,8 +149,8 @@ passes_agree labels state line e =
     let text = operands_part statement in
     let org = org_at (number_of (trimmed text)) in
     let lead = by_tests state.place (is_empty statement) (is_org statement) (bytes_eq (name_part statement) (codes ".word")) (is_some (insn_named (name_part statement)))
-    org (word_at (value_at labels (trimmed text))) (insn_at labels state.place (insn_named (name_part statement)) text) f.statement
-    (empty_apart statement) (org_places (number_of (trimmed text))) (word_words (value_at labels (trimmed text))) (insn_words labels state.place (insn_named (name_part statement)) text) f.reads in
+    org (word_at (bits_of (value_at labels (trimmed text)))) (insn_at labels state.place (insn_named (name_part statement)) text) f.statement
+    (empty_apart statement) (org_places (number_of (trimmed text))) (word_words (bits_of (value_at labels (trimmed text)))) (insn_words labels state.place (insn_named (name_part statement)) text) f.reads in
     ap (λ r. (carried_out state (state.labels_before + label_count (label_of line)) r).place) f.reads
     ∙ carried_place state (state.labels_before + label_count (label_of line)) f.statement
     ∙ lead
@@ -186,8 +182,8 @@ gives_word labels pc statement n e =
     let text = operands_part statement in
     let name = name_part statement in
     puts_by_tests (is_empty statement) (is_org statement) (bytes_eq name (codes ".word")) (is_some (insn_named name))
-    (org_at (number_of (trimmed text))) (word_at (value_at labels (trimmed text))) (insn_at labels pc (insn_named name) text) n
-    (org_places (number_of (trimmed text))) (word_words (value_at labels (trimmed text))) (insn_words labels pc (insn_named name) text) e
+    (org_at (number_of (trimmed text))) (word_at (bits_of (value_at labels (trimmed text)))) (insn_at labels pc (insn_named name) text) n
+    (org_places (number_of (trimmed text))) (word_words (bits_of (value_at labels (trimmed text)))) (insn_words labels pc (insn_named name) text) e
 
 -- at most 64 pieces
 length_extended : (w : ℕ) (pieces : List (ℕ × List ℕ)) → length (extended w pieces) ≡ length pieces

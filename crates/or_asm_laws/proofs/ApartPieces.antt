@@ -14,7 +14,7 @@ use Rattle.or_asm_read.specs.declared.statements.Statement.TheVariants.{Nothing,
 use Rattle.or_asm_read.specs.Cuts.{trimmed, name_part, operands_part, label_of, statement_of}
 use Rattle.or_asm_read.specs.Numbers.{number_of}
 use Rattle.or_asm_read.specs.Labels.{Labels}
-use Rattle.or_asm_read.specs.Operands.{is_empty, value_at}
+use Rattle.or_asm_read.specs.Operands.{is_empty, value_at, bits_of}
 use Rattle.or_asm_read.specs.Statements.{org_at, word_at, insn_at, named_at, statement_at}
 use Rattle.or_asm.specs.Lines.{lines_of, puts_word}
 use Rattle.or_asm.specs.Program.{covers, appended, extended}
@@ -151,10 +151,10 @@ statement_aligned labels pc statement =
     let text = operands_part statement in
     let name = name_part statement in
     let org = org_at (number_of (trimmed text)) in
-    let word = word_at (value_at labels (trimmed text)) in
+    let word = word_at (bits_of (value_at labels (trimmed text))) in
     let insn = insn_at labels pc (insn_named name) text in
     tests_aligned (is_empty statement) (bytes_eq name (codes ".org")) (bytes_eq name (codes ".word")) org word insn
-    (org_aligned (number_of (trimmed text))) (words_aligned true word (word_words (value_at labels (trimmed text)))) (words_aligned (is_some (insn_named name)) insn (insn_words labels pc (insn_named name) text))
+    (org_aligned (number_of (trimmed text))) (words_aligned true word (word_words (bits_of (value_at labels (trimmed text))))) (words_aligned (is_some (insn_named name)) insn (insn_words labels pc (insn_named name) text))
 
 -- a word has room, and its place is free
 record HasRoom (state : State) : Type 0 where

@@ -10,7 +10,7 @@ use Rattle.or_isa.specs.declared.Insn.{Insn}
 use Rattle.or_isa.specs.Fits.{Fits, IsSigned}
 use Rattle.or_asm_text.specs.declared.operands.Operands.{Operands}
 use Rattle.or_asm_text.specs.declared.operands.Slot.{Slot}
-use Rattle.or_asm_text.specs.declared.operands.Slot.TheVariants.{D, A, B, Signed, Half, HighHalf, LowHalf, Shift, Page, Target, Memory}
+use Rattle.or_asm_text.specs.declared.operands.Slot.TheVariants.{D, A, B, Signed, Half, OptionalHalf, HighHalf, LowHalf, Shift, Page, Target, Memory}
 use Rattle.or_asm_text.specs.Parts.{operands_of}
 use Rattle.or_asm_text.specs.Names.{name_of}
 use Rattle.or_asm_text.specs.Slots.{slots_of}
@@ -91,6 +91,7 @@ slot_some pc A o h = omega arith
 slot_some pc B o h = omega arith
 slot_some pc Signed o h = signed_some o.value (from_15 o.value h)
 slot_some pc Half o h = omega arith
+slot_some pc OptionalHalf o h = omega arith
 slot_some pc HighHalf o h = omega arith
 slot_some pc LowHalf o h = omega arith
 slot_some pc Shift o h = signed_some o.value (from_6 o.value h)

@@ -8,7 +8,7 @@ use Rattle.or_isa.specs.declared.Insn.TheVariants.{Jump}
 use Rattle.or_isa.specs.Fits.{Fits, IsSigned}
 use Rattle.or_asm_text.specs.declared.operands.Operands.{Operands}
 use Rattle.or_asm_text.specs.declared.operands.Slot.{Slot}
-use Rattle.or_asm_text.specs.declared.operands.Slot.TheVariants.{D, A, B, Signed, Half, HighHalf, LowHalf, Shift, Page, Target, Memory}
+use Rattle.or_asm_text.specs.declared.operands.Slot.TheVariants.{D, A, B, Signed, Half, OptionalHalf, HighHalf, LowHalf, Shift, Page, Target, Memory}
 use Rattle.or_asm_text.specs.Parts.{operands_with, natural, operands_of}
 use Rattle.or_asm_text.specs.Ranges.{filled}
 use Rattle.or_asm_text.specs.Slots.{slots_of}
@@ -61,6 +61,7 @@ slot_marks pc A o h = register_marks o.a h
 slot_marks pc B o h = register_marks o.b h
 slot_marks pc Signed o h = signed_marks o.value (from_15 o.value h)
 slot_marks pc Half o h = natural_marks o.value h
+slot_marks pc OptionalHalf o h = natural_marks o.value h
 slot_marks pc HighHalf o h = natural_marks o.value h
 slot_marks pc LowHalf o h = natural_marks o.value h
 slot_marks pc Shift o h = signed_marks o.value (from_6 o.value h)

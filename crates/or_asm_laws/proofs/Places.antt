@@ -1,18 +1,18 @@
 -- What is printed at a place among the operands is read back.
 use Rattle.std.proofs.Common.{◌≡◌, ◌∙◌, refl, ap, ℕ, suc, ◌+◌, ◌-◌, ◌*◌, ◌/◌, ◌%◌, ◌^◌, ◌<◌, ℤ, pos, negsuc, true, false, cond, ◌&&◌, ◌||◌, leb, eqb, List, [], ◌∷◌, ◌++◌, codes, Some, Ok, Err, decimal, append_assoc, lit<, lit≤, arith}
-use Rattle.std.specs.Prelude.{not, ◌==◌}
-use Rattle.std.specs.Int.{cast_signed, w32}
+use Rattle.std.specs.Prelude.{not, ◌==◌, int_le, Bool}
+use Rattle.std.specs.Int.{cast_signed, int_wrap, w16, w32}
 use Rattle.std.specs.Fmt.{digits, signed_decimal}
 use Rattle.std.specs.List.{list_all}
 use Rattle.std.specs.Str.{bytes_eq}
 use Rattle.std.proofs.lemmas.Bool.Decides.{nat_tests}
-use Rattle.std.proofs.lemmas.Int.{ints}
+use Rattle.std.proofs.lemmas.Int.{ints, int_wrap_fits}
 use Rattle.std.proofs.lemmas.Fmt.{digits_is_IsNumeral, decimal_is_IsNumeral}
 use Rattle.std.proofs.Math.Nat.{lt_of_lt_of_le}
 use Rattle.or_isa.specs.Fits.{IsSigned}
 use Rattle.or_asm_text.specs.declared.operands.Operands.{Operands}
 use Rattle.or_asm_text.specs.declared.operands.Slot.{Slot}
-use Rattle.or_asm_text.specs.declared.operands.Slot.TheVariants.{D, A, B, Signed, Half, HighHalf, LowHalf, Shift, Page, Target, Memory}
+use Rattle.or_asm_text.specs.declared.operands.Slot.TheVariants.{D, A, B, Signed, Half, OptionalHalf, HighHalf, LowHalf, Shift, Page, Target, Memory}
 use Rattle.or_asm_text.specs.Parts.{natural}
 use Rattle.or_asm_text.specs.Ranges.{fill}
 use Rattle.or_text.specs.Hexadecimal.{hexadecimal}
@@ -21,9 +21,9 @@ use Rattle.or_asm_read.specs.declared.fault.Fault.TheVariants.{BadLine, OutOfRan
 use Rattle.or_asm_read.specs.declared.operands.Operand.{Operand}
 use Rattle.or_asm_read.specs.Cuts.{is_label_byte, is_label, before, after, has}
 use Rattle.or_asm_read.specs.Faults.{lesser_fault}
-use Rattle.or_asm_read.specs.Numbers.{number_of, register_of}
-use Rattle.or_asm_read.specs.Operands.{int_le, within, ranged, operand_of, as_value, register_at, number_at, half_at, half_or, before_bracket, in_brackets, is_bracketed, is_empty, value_at, plain_at, offset_of, quarter, jump_at, address_operand, memory_at, slot_at, placed}
-use Rattle.or_asm_read.specs.Labels.{Labels, place_of}
+use Rattle.or_asm_read.specs.Numbers.{is_hexadecimal, number_of, register_of}
+use Rattle.or_asm_read.specs.Operands.{within, ranged, operand_of, as_value, with_value, unsigned_half, constant_at, greatest_immediate, immediate_at, register_at, number_at, bits_of, half_at, half_or, before_bracket, in_brackets, is_bracketed, is_empty, value_at, plain_at, offset_of, quarter, jump_at, address_operand, memory_at, slot_at, placed}
+use Rattle.or_asm_read.specs.Labels.{Labels}
 use Rattle.or_asm_laws.specs.SlotFits.{IsNatural, SlotFits}
 use Rattle.or_asm_laws.proofs.Numbers.{number_hex, number_decimal, number_negative, register_again}
 use Rattle.or_asm_laws.proofs.Spelled.{and_true, not_true, is_plain, all_of, later_plain, digits_later, none_such, before_at, after_at, after_none}
@@ -35,6 +35,7 @@ shown A o = operand_of o.a (pos 0)
 shown B o = operand_of o.b (pos 0)
 shown Signed o = operand_of 0 o.value
 shown Half o = operand_of 0 o.value
+shown OptionalHalf o = operand_of 0 o.value
 shown HighHalf o = operand_of 0 o.value
 shown LowHalf o = operand_of 0 o.value
 shown Shift o = operand_of 0 o.value
@@ -54,9 +55,21 @@ number_again : (low high z : ℤ) (text : List ℕ) → number_of text ≡ Some 
 number_again low high z text e h =
     ap (λ o. as_value (ranged low high o)) e ∙ ap as_value (within_again low high z h.0 h.1)
 
-in_15 : (z : ℤ) → IsSigned 15 z → (int_le (negsuc 32767) z ≡ true) × (int_le z (pos 32767) ≡ true)
-in_15 (pos n) h = (refl, grind (arith, nat_tests))
-in_15 (negsuc n) h = (grind (arith, nat_tests), refl)
+-- a number of 16 bits with its sign, however its greatest is spelled
+in_15 : (hex : Bool) (z : ℤ) → IsSigned 15 z → (int_le (negsuc 32767) z ≡ true) × (int_le z (cond hex (pos 65535) (pos 32767)) ≡ true)
+in_15 true (pos n) h = (refl, grind (arith, nat_tests))
+in_15 false (pos n) h = (refl, grind (arith, nat_tests))
+in_15 true (negsuc n) h = (grind (arith, nat_tests), refl)
+in_15 false (negsuc n) h = (grind (arith, nat_tests), refl)
+
+wrapped_same : (z : ℤ) → IsSigned 15 z → int_wrap w16 z ≡ z
+wrapped_same (pos n) h = int_wrap_fits w16 (pos n) (record { sfits = h })
+wrapped_same (negsuc n) h = int_wrap_fits w16 (negsuc n) (record { sfits = h })
+
+immediate_again : (z : ℤ) (text : List ℕ) → IsSigned 15 z → number_of text ≡ Some z → immediate_at text ≡ Ok (operand_of 0 z)
+immediate_again z text h e =
+    ap (with_value (int_wrap w16)) (number_again (negsuc 32767) (greatest_immediate text) z text e (in_15 (is_hexadecimal text) z h))
+    ∙ ap (λ v. Ok (operand_of 0 v)) (wrapped_same z h)
 
 in_20 : (z : ℤ) → IsSigned 20 z → (int_le (negsuc 1048575) z ≡ true) × (int_le z (pos 1048575) ≡ true)
 in_20 (pos n) h = (refl, grind (arith, nat_tests))
@@ -78,9 +91,12 @@ wider_20 : (z : ℤ) → IsSigned 20 z → IsSigned 25 z
 wider_20 (pos n) h = omega arith
 wider_20 (negsuc n) h = omega arith
 
-half_again : (z : ℤ) → IsNatural 16 z → number_at (pos 0) (pos 65535) (hexadecimal (natural z)) ≡ Ok (operand_of 0 z)
-half_again (pos n) h = number_again (pos 0) (pos 65535) (pos n) (hexadecimal n) (number_hex n (omega arith)) (grind (arith, nat_tests), grind (arith, nat_tests))
-half_again (negsuc n) h = absurd h
+constant_again : (z : ℤ) → IsNatural 16 z → constant_at (hexadecimal (natural z)) ≡ Ok (operand_of 0 z)
+constant_again (pos n) h =
+    let same : n % 65536 ≡ n = omega arith in
+    ap (with_value unsigned_half) (number_again (negsuc 32767) (pos 65535) (pos n) (hexadecimal n) (number_hex n (omega arith)) (refl, grind (arith, nat_tests)))
+    ∙ ap (λ m. Ok (operand_of 0 (pos m))) same
+constant_again (negsuc n) h = absurd h
 
 shift_again : (z : ℤ) → IsNatural 6 z → number_at (pos 0) (pos 63) (signed_decimal z) ≡ Ok (operand_of 0 z)
 shift_again (pos n) h = number_again (pos 0) (pos 63) (pos n) (decimal n) (number_decimal n (omega arith)) (grind (arith, nat_tests), grind (arith, nat_tests))
@@ -109,8 +125,8 @@ half_or_again : (name : List ℕ) (part : ℕ → ℕ) (labels : Labels) (z : �
 half_or_again name part labels (negsuc n) h = absurd h
 half_or_again name part labels (pos n) h =
     let text = hexadecimal n in
-    ap (λ t. cond (t && bytes_eq (before_bracket text) name && is_label (in_brackets text)) (half_at part (place_of labels (in_brackets text))) (number_at (pos 0) (pos 65535) text)) (no_call text (hex_later n (omega arith)))
-    ∙ half_again (pos n) h
+    ap (λ t. cond (t && bytes_eq (before_bracket text) name) (half_at part (bits_of (value_at labels (in_brackets text)))) (constant_at text)) (no_call text (hex_later n (omega arith)))
+    ∙ constant_again (pos n) h
 
 has_at : (xs : List ℕ) → list_all (λ b. not (b == 41)) xs ≡ true → has 41 (xs ++ 41 ∷ []) ≡ true
 has_at [] f = refl
@@ -133,12 +149,12 @@ memory_again z a value register =
     let middle : before 41 (after 40 text) ≡ name = ap (before 41) back ∙ before_at (λ b. b == 41) name 41 [] inside refl in
     let behind : after 41 (after 40 text) ≡ [] = ap (after 41) back ∙ after_at (λ b. b == 41) name 41 [] inside refl in
     let closes : has 41 (after 40 text) ≡ true = ap (has 41) back ∙ has_at name inside in
-    let answer = lesser_fault address_operand (number_at (negsuc 32767) (pos 32767) (before 40 text)) (register_at (register_of (before 41 (after 40 text)))) in
+    let answer = lesser_fault address_operand (immediate_at (before 40 text)) (register_at (register_of (before 41 (after 40 text)))) in
     ap (λ t. cond (t && is_empty (after 41 (after 40 text))) answer (Err BadLine)) closes
     ∙ ap (λ t. cond (is_empty t) answer (Err BadLine)) behind
-    ∙ ap (λ t. lesser_fault address_operand (number_at (negsuc 32767) (pos 32767) t) (register_at (register_of (before 41 (after 40 text))))) front
-    ∙ ap (λ t. lesser_fault address_operand (number_at (negsuc 32767) (pos 32767) number) (register_at (register_of t))) middle
-    ∙ ap (λ t. lesser_fault address_operand t (register_at (register_of name))) (number_again (negsuc 32767) (pos 32767) z number (signed_again 25 z (lit< tt) (wider_15 z value)) (in_15 z value))
+    ∙ ap (λ t. lesser_fault address_operand (immediate_at t) (register_at (register_of (before 41 (after 40 text))))) front
+    ∙ ap (λ t. lesser_fault address_operand (immediate_at number) (register_at (register_of t))) middle
+    ∙ ap (λ t. lesser_fault address_operand t (register_at (register_of name))) (immediate_again z number value (signed_again 25 z (lit< tt) (wider_15 z value)))
     ∙ ap (λ t. lesser_fault address_operand (Ok (operand_of 0 z)) (register_at t)) (register_again a register)
 
 -- a jump's target leads back to its words
@@ -184,10 +200,11 @@ unfolding slot_at
 slot_again labels pc D o small aligned h = ap register_at (register_again o.d h)
 slot_again labels pc A o small aligned h = ap register_at (register_again o.a h)
 slot_again labels pc B o small aligned h = ap register_at (register_again o.b h)
-slot_again labels pc Signed o small aligned h = number_again (negsuc 32767) (pos 32767) o.value (signed_decimal o.value) (signed_again 25 o.value (lit< tt) (wider_15 o.value h)) (in_15 o.value h)
-slot_again labels pc Half o small aligned h = half_again o.value h
-slot_again labels pc HighHalf o small aligned h = half_or_again (codes "hi") (λ place. place / 65536) labels o.value h
-slot_again labels pc LowHalf o small aligned h = half_or_again (codes "lo") (λ place. place % 65536) labels o.value h
+slot_again labels pc Signed o small aligned h = immediate_again o.value (signed_decimal o.value) h (signed_again 25 o.value (lit< tt) (wider_15 o.value h))
+slot_again labels pc Half o small aligned h = constant_again o.value h
+slot_again labels pc OptionalHalf o small aligned h = constant_again o.value h
+slot_again labels pc HighHalf o small aligned h = half_or_again (codes "hi") (λ word. word / 65536) labels o.value h
+slot_again labels pc LowHalf o small aligned h = half_or_again (codes "lo") (λ word. word % 65536) labels o.value h
 slot_again labels pc Shift o small aligned h = shift_again o.value h
 slot_again labels pc Page o small aligned h = number_again (negsuc 1048575) (pos 1048575) o.value (signed_decimal o.value) (signed_again 25 o.value (lit< tt) (wider_20 o.value h)) (in_20 o.value h)
 slot_again labels pc Target o small aligned h = jump_again labels pc o.value small aligned h

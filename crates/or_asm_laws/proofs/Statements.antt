@@ -1,6 +1,6 @@
 -- What is printed is a statement that puts the instruction's word.
-use Rattle.std.proofs.Common.{◌≡◌, ◌∙◌, refl, sym, ap, ℕ, ◌%◌, ◌^◌, ◌<◌, true, false, cond, List, [], ◌∷◌, ◌++◌, drop, codes, Result, Ok, Err}
-use Rattle.std.specs.List.{list_all, before_first, after_first}
+use Rattle.std.proofs.Common.{◌≡◌, ◌∙◌, refl, sym, ap, ℕ, ◌%◌, ◌^◌, ◌<◌, false, cond, List, [], ◌∷◌, ◌++◌, codes, Result, Ok, Err}
+use Rattle.std.specs.List.{before_first, after_first}
 use Rattle.std.specs.Str.{bytes_eq}
 use Rattle.or_isa.specs.declared.Insn.{Insn}
 use Rattle.or_isa.specs.Fits.{Fits}
@@ -14,16 +14,16 @@ use Rattle.or_asm_text.specs.Slots.{slots_of}
 use Rattle.or_asm_text.specs.Texts.{slot_text, further_text, slots_text, text_of}
 use Rattle.or_asm_text.proofs.Parts.{whole, bare_with, bare_slots, all_filled}
 use Rattle.or_asm_text.proofs.Named.{each_named}
-use Rattle.or_asm_laws.proofs.Names.{Spelling, spelling}
+use Rattle.or_asm_laws.proofs.Names.{spelling}
 use Rattle.or_asm_read.specs.declared.fault.Fault.{Fault}
 use Rattle.or_asm_read.specs.declared.statements.Statement.TheVariants.{Nothing, Word}
 use Rattle.or_asm_read.specs.Cuts.{is_blank, trimmed, name_part, operands_part}
 use Rattle.or_asm_read.specs.Numbers.{number_of}
-use Rattle.or_asm_read.specs.Operands.{is_empty, value_at, operands_at}
+use Rattle.or_asm_read.specs.Operands.{is_empty, value_at, bits_of, operands_at}
 use Rattle.or_asm_read.specs.Labels.{Labels}
 use Rattle.or_asm_read.specs.Statements.{org_at, word_at, made_of, insn_at, named_at, statement_at}
 use Rattle.or_asm_laws.specs.SlotFits.{SlotsFit}
-use Rattle.or_asm_laws.proofs.Spelled.{is_mark, no_blanks, before_at, after_at, before_none, after_none}
+use Rattle.or_asm_laws.proofs.Spelled.{no_blanks, before_at, after_at, before_none, after_none}
 use Rattle.or_asm_laws.proofs.Operands.{all_shown, operands_again, append_none}
 
 -- an instruction without operands takes the same operands
@@ -36,7 +36,7 @@ unfolding named_at
 named_again labels pc i text =
     let s = spelling i in
     let org = org_at (number_of (trimmed text)) in
-    let word = word_at (value_at labels (trimmed text)) in
+    let word = word_at (bits_of (value_at labels (trimmed text))) in
     let other = insn_at labels pc (insn_named (name_of i)) text in
     ap (λ t. cond t org (cond (bytes_eq (name_of i) (codes ".word")) word other)) s.not_org
     ∙ ap (λ t. cond t word other) s.not_word

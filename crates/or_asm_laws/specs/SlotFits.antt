@@ -3,7 +3,7 @@ use Rattle.std.specs.Prelude.{ℕ, ◌^◌, ◌<◌, ℤ, pos, negsuc, List, [],
 use Rattle.or_isa.specs.Fits.{IsSigned}
 use Rattle.or_asm_text.specs.declared.operands.Operands.{Operands}
 use Rattle.or_asm_text.specs.declared.operands.Slot.{Slot}
-use Rattle.or_asm_text.specs.declared.operands.Slot.TheVariants.{D, A, B, Signed, Half, HighHalf, LowHalf, Shift, Page, Target, Memory}
+use Rattle.or_asm_text.specs.declared.operands.Slot.TheVariants.{D, A, B, Signed, Half, OptionalHalf, HighHalf, LowHalf, Shift, Page, Target, Memory}
 
 abbrev pub IsNatural : ℕ → ℤ → Type 0
 IsNatural bits (pos n) = n < 2 ^ bits
@@ -15,6 +15,7 @@ SlotFits A o = o.a < 2 ^ 5
 SlotFits B o = o.b < 2 ^ 5
 SlotFits Signed o = IsSigned 15 o.value
 SlotFits Half o = IsNatural 16 o.value
+SlotFits OptionalHalf o = IsNatural 16 o.value
 SlotFits HighHalf o = IsNatural 16 o.value
 SlotFits LowHalf o = IsNatural 16 o.value
 SlotFits Shift o = IsNatural 6 o.value

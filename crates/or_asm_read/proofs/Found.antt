@@ -5,12 +5,14 @@ use Rattle.or_isa.specs.Fits.{Fits, IsSigned}
 use Rattle.or_isa.specs.declared.Insn.{Insn}
 use Rattle.or_asm_text.specs.declared.operands.Operands.{Operands}
 use Rattle.or_asm_text.specs.declared.operands.Slot.{Slot}
-use Rattle.or_asm_text.specs.declared.operands.Slot.TheVariants.{D, A, B, Signed, Half, HighHalf, LowHalf, Shift, Page, Target, Memory}
+use Rattle.or_asm_text.specs.declared.operands.Slot.TheVariants.{D, A, B, Signed, Half, OptionalHalf, HighHalf, LowHalf, Shift, Page, Target, Memory}
 use Rattle.or_asm_text.specs.Parts.{operands_with, natural, with_operands}
 use Rattle.or_asm_text.specs.Slots.{slots_of}
 use Rattle.or_asm_text.specs.Ranges.{RegistersFit, ValueFits}
 use Rattle.or_asm_text.proofs.Parts.{fits}
-use Rattle.std.specs.Prelude.{not}
+use Rattle.std.specs.Prelude.{not, int_le, ◌-◌}
+use Rattle.std.specs.Int.{cast_signed, cast_unsigned, int_wrap, w16, w32}
+use Rattle.std.proofs.lemmas.Int.{ints}
 use Rattle.std.specs.Str.Parse.{digits_value}
 use Rattle.or_asm_read.specs.declared.fault.Fault.{Fault}
 use Rattle.or_asm_read.specs.declared.fault.Fault.TheVariants.{BadLine, OutOfRange}
@@ -18,8 +20,8 @@ use Rattle.or_asm_read.specs.declared.operands.Operand.{Operand}
 use Rattle.or_asm_read.specs.Cuts.{trimmed, before, after}
 use Rattle.or_asm_read.specs.Faults.{lesser_fault}
 use Rattle.or_asm_read.specs.Numbers.{are_digits, has_leading_zero, number_of, register_of}
-use Rattle.or_asm_read.specs.Operands.{int_le, within, ranged, as_value, register_at, number_at, half_at, half_or, before_bracket, in_brackets, is_bracketed, value_at, offset_of, quarter, jump_at, address_operand, memory_at, slot_at, placed, is_empty, operands_at}
-use Rattle.or_asm_read.specs.Labels.{Labels, place_of}
+use Rattle.or_asm_read.specs.Operands.{within, ranged, as_value, with_value, unsigned_half, constant_at, optional_at, greatest_immediate, immediate_at, register_at, bits_of, half_at, half_or, before_bracket, in_brackets, is_bracketed, value_at, offset_of, quarter, jump_at, address_operand, memory_at, slot_at, placed, is_empty, operands_at}
+use Rattle.or_asm_read.specs.Labels.{Labels}
 
 abbrev Gives : {X : Type 0} → (X → Type 0) → Result X Fault → Type 0
 Gives P (Ok x) = P x
@@ -37,6 +39,7 @@ SlotValue A z = Unit {0}
 SlotValue B z = Unit {0}
 SlotValue Signed z = IsSigned 15 z
 SlotValue Half z = natural z < 2 ^ 16
+SlotValue OptionalHalf z = natural z < 2 ^ 16
 SlotValue HighHalf z = natural z < 2 ^ 16
 SlotValue LowHalf z = natural z < 2 ^ 16
 SlotValue Shift z = natural z < 2 ^ 6
@@ -59,11 +62,6 @@ number_gives : (P : ℤ → Type 0) (low high : ℤ) (o : Option ℤ) → AllIn 
 number_gives P low high None h = tt
 number_gives P low high (Some z) h = within_gives P low high z h
 
-signed_15 : AllIn (negsuc 32767) (pos 32767) (IsSigned 15)
-unfolding AllIn
-signed_15 (pos n) low high = grind (arith, nat_tests)
-signed_15 (negsuc n) low high = grind (arith, nat_tests)
-
 signed_20 : AllIn (negsuc 1048575) (pos 1048575) (IsSigned 20)
 unfolding AllIn
 signed_20 (pos n) low high = grind (arith, nat_tests)
@@ -73,11 +71,6 @@ signed_25 : AllIn (negsuc 33554431) (pos 33554431) (IsSigned 25)
 unfolding AllIn
 signed_25 (pos n) low high = grind (arith, nat_tests)
 signed_25 (negsuc n) low high = grind (arith, nat_tests)
-
-natural_16 : AllIn (pos 0) (pos 65535) (λ z. natural z < 2 ^ 16)
-unfolding AllIn
-natural_16 (pos n) low high = grind (arith, nat_tests)
-natural_16 (negsuc n) low high = omega arith
 
 natural_6 : AllIn (pos 0) (pos 63) (λ z. natural z < 2 ^ 6)
 unfolding AllIn
@@ -97,16 +90,65 @@ unfolding register_of
 register_gives [] = tt
 register_gives (c ∷ cs) = below_of (eqb c 114) (are_digits 10 cs) (ltb (digits_value 10 cs) 32) (not (has_leading_zero cs)) (digits_value 10 cs) (small_digits cs)
 
-half_gives : (part : ℕ → ℕ) (o : Option ℕ) → Gives (Holds (λ z. natural z < 2 ^ 16)) (half_at part o)
-half_gives part None = tt
-half_gives part (Some place) = within_gives _ (pos 0) (pos 65535) (pos (part place)) natural_16
-
 one_of : {X : Type 0} (P : X → Type 0) (b : Bool) (x y : Result X Fault) → Gives P x → Gives P y → Gives P (cond b x y)
 one_of P true x y f g = f
 one_of P false x y f g = g
 
-half_or_gives : (name : List ℕ) (part : ℕ → ℕ) (labels : Labels) (text : List ℕ) → Gives (Holds (λ z. natural z < 2 ^ 16)) (half_or name part labels text)
-half_or_gives name part labels text = one_of (Holds (λ z. natural z < 2 ^ 16)) _ _ _ (half_gives part (place_of labels (in_brackets text))) (number_gives _ (pos 0) (pos 65535) (number_of text) natural_16)
+-- 16 bits of a number
+unsigned_fits : (z : ℤ) → natural (unsigned_half z) < 2 ^ 16
+unsigned_fits (pos n) = omega arith
+unsigned_fits (negsuc n) = omega arith
+
+signed_fits : (n : ℕ) → n < 2 ^ 16 → IsSigned 15 (cast_signed w16 n)
+signed_fits n small = grind (arith, nat_tests, ints)
+
+wrapped_fits : (z : ℤ) → IsSigned 15 (int_wrap w16 z)
+unfolding int_wrap
+wrapped_fits (pos n) = signed_fits (n % 2 ^ 16) (omega arith)
+wrapped_fits (negsuc n) = signed_fits (2 ^ 16 - 1 - n % 2 ^ 16) (omega arith)
+
+-- what is made of a number in any range
+valued : (P : ℤ → Type 0) (f : ℤ → ℤ) → ((z : ℤ) → P (f z)) → (r : Result ℤ Fault) → Gives (Holds P) (with_value f (as_value r))
+valued P f h (Ok z) = record { register = omega arith; value = h z }
+valued P f h (Err e) = tt
+
+constant_gives : (text : List ℕ) → Gives (Holds (λ z. natural z < 2 ^ 16)) (constant_at text)
+constant_gives text = valued (λ z. natural z < 2 ^ 16) unsigned_half unsigned_fits (ranged (negsuc 32767) (pos 65535) (number_of text))
+
+optional_gives : (text : List ℕ) → Gives (Holds (λ z. natural z < 2 ^ 16)) (optional_at text)
+optional_gives [] = record { register = omega arith; value = omega arith }
+optional_gives (b ∷ bs) = constant_gives (b ∷ bs)
+
+immediate_gives : (text : List ℕ) → Gives (Holds (IsSigned 15)) (immediate_at text)
+immediate_gives text = valued (IsSigned 15) (int_wrap w16) wrapped_fits (ranged (negsuc 32767) (greatest_immediate text) (number_of text))
+
+-- halves of 32 bits
+IsHalf : (ℕ → ℕ) → Type 0
+IsHalf part = (word : ℕ) → word < 2 ^ 32 → part word < 2 ^ 16
+
+bits_fit : (z : ℤ) → int_le (negsuc 2147483647) z ≡ true → int_le z (pos 4294967295) ≡ true → cast_unsigned w32 z < 2 ^ 32
+bits_fit (pos n) low high = grind (arith, nat_tests)
+bits_fit (negsuc n) low high = grind (arith, nat_tests)
+
+half_if : (part : ℕ → ℕ) → IsHalf part → (a b : Bool) (word : ℕ) → (a ≡ true → b ≡ true → word < 2 ^ 32) → Gives (Holds (λ z. natural z < 2 ^ 16)) (half_at part (cond (a && b) (Ok word) (Err OutOfRange)))
+unfolding IsHalf
+half_if part half true true word h = record { register = omega arith; value = half word (h refl refl) }
+half_if part half _ _ word h = tt
+
+half_gives : (part : ℕ → ℕ) → IsHalf part → (r : Result ℤ Fault) → Gives (Holds (λ z. natural z < 2 ^ 16)) (half_at part (bits_of r))
+half_gives part half (Err e) = tt
+half_gives part half (Ok z) = half_if part half (int_le (negsuc 2147483647) z) (int_le z (pos 4294967295)) (cast_unsigned w32 z) (bits_fit z)
+
+half_or_gives : (name : List ℕ) (part : ℕ → ℕ) → IsHalf part → (labels : Labels) (text : List ℕ) → Gives (Holds (λ z. natural z < 2 ^ 16)) (half_or name part labels text)
+half_or_gives name part half labels text = one_of (Holds (λ z. natural z < 2 ^ 16)) _ _ _ (half_gives part half (value_at labels (in_brackets text))) (constant_gives text)
+
+high_half : IsHalf (λ word. word / 65536)
+unfolding IsHalf
+high_half word small = omega arith
+
+low_half : IsHalf (λ word. word % 65536)
+unfolding IsHalf
+low_half word small = omega arith
 
 jump_gives : (pc : ℕ) (z : Result ℤ Fault) → Gives (Holds (IsSigned 25)) (jump_at pc z)
 jump_gives pc (Err e) = tt
@@ -121,19 +163,20 @@ both_give P Q (Err e) (Err d) f g = tt
 
 memory_gives : (text : List ℕ) → Gives (Holds (IsSigned 15)) (memory_at text)
 memory_gives text =
-    let number = number_at (negsuc 32767) (pos 32767) (before_bracket text) in
+    let number = immediate_at (before_bracket text) in
     let register = register_at (register_of (in_brackets text)) in
-    one_of (Holds (IsSigned 15)) (is_bracketed text) (lesser_fault address_operand number register) (Err BadLine) (both_give (IsSigned 15) (λ z. Unit {0}) number register (number_gives (IsSigned 15) (negsuc 32767) (pos 32767) (number_of (before_bracket text)) signed_15) (register_gives (in_brackets text))) tt
+    one_of (Holds (IsSigned 15)) (is_bracketed text) (lesser_fault address_operand number register) (Err BadLine) (both_give (IsSigned 15) (λ z. Unit {0}) number register (immediate_gives (before_bracket text)) (register_gives (in_brackets text))) tt
 
 slot_gives : (labels : Labels) (pc : ℕ) (slot : Slot) (text : List ℕ) → Gives (Holds (SlotValue slot)) (slot_at labels pc slot text)
 unfolding slot_at
 slot_gives labels pc D text = register_gives text
 slot_gives labels pc A text = register_gives text
 slot_gives labels pc B text = register_gives text
-slot_gives labels pc Signed text = number_gives _ (negsuc 32767) (pos 32767) (number_of text) signed_15
-slot_gives labels pc Half text = number_gives _ (pos 0) (pos 65535) (number_of text) natural_16
-slot_gives labels pc HighHalf text = half_or_gives (codes "hi") (λ place. place / 65536) labels text
-slot_gives labels pc LowHalf text = half_or_gives (codes "lo") (λ place. place % 65536) labels text
+slot_gives labels pc Signed text = immediate_gives text
+slot_gives labels pc Half text = constant_gives text
+slot_gives labels pc OptionalHalf text = optional_gives text
+slot_gives labels pc HighHalf text = half_or_gives (codes "hi") (λ word. word / 65536) high_half labels text
+slot_gives labels pc LowHalf text = half_or_gives (codes "lo") (λ word. word % 65536) low_half labels text
 slot_gives labels pc Shift text = number_gives _ (pos 0) (pos 63) (number_of text) natural_6
 slot_gives labels pc Page text = number_gives _ (negsuc 1048575) (pos 1048575) (number_of text) signed_20
 slot_gives labels pc Target text = jump_gives pc (value_at labels text)

@@ -1,5 +1,5 @@
 -- Numbers and registers.
-use Rattle.std.specs.Prelude.{ℕ, ◌^◌, ◌==◌, nat_lt, min, if◌then◌else◌, ℤ, pos, Bool, false, ◌&&◌, not, List, [], ◌∷◌, Option, Some, None, option_map, neg_ℤ}
+use Rattle.std.specs.Prelude.{ℕ, ◌^◌, ◌==◌, nat_lt, min, if◌then◌else◌, ℤ, pos, Bool, false, ◌&&◌, not, List, [], ◌∷◌, drop, Option, Some, None, option_map, neg_ℤ}
 use Rattle.std.specs.Char.{is_digit}
 use Rattle.std.specs.List.{list_all}
 use Rattle.std.specs.Str.Parse.{digits_value}
@@ -12,11 +12,15 @@ are_digits base (c ∷ cs) = list_all (λ b. is_digit b base) (c ∷ cs)
 unfoldable pub capped_value : ℕ → List ℕ → Option ℕ
 capped_value base ds = if are_digits base ds then Some (min (digits_value base ds) (2 ^ 32)) else None
 
+-- 0x stands in front
+abbrev pub is_hexadecimal : List ℕ → Bool
+is_hexadecimal [] = false
+is_hexadecimal (c ∷ []) = false
+is_hexadecimal (c ∷ d ∷ ds) = c == 48 && d == 120
+
 -- decimal, or hexadecimal behind 0x
 abbrev pub magnitude_of : List ℕ → Option ℕ
-magnitude_of [] = capped_value 10 []
-magnitude_of (c ∷ []) = capped_value 10 (c ∷ [])
-magnitude_of (c ∷ d ∷ ds) = if c == 48 && d == 120 then capped_value 16 ds else capped_value 10 (c ∷ d ∷ ds)
+magnitude_of text = if is_hexadecimal text then capped_value 16 (drop 2 text) else capped_value 10 text
 
 -- with a minus before it or not
 unfoldable pub number_of : List ℕ → Option ℤ

@@ -1,10 +1,10 @@
 -- The operands of a statement.
-use Rattle.std.specs.Prelude.{ℕ, ◌+◌, ◌-◌, ◌/◌, ◌%◌, ◌^◌, ◌==◌, nat_le, if◌then◌else◌, ℤ, pos, negsuc, Bool, true, false, ◌&&◌, List, [], ◌∷◌, codes, Option, Some, None, Result, Ok, Err}
-use Rattle.std.specs.Int.{cast_signed, w32}
+use Rattle.std.specs.Prelude.{ℕ, ◌+◌, ◌-◌, ◌/◌, ◌%◌, ◌^◌, ◌==◌, nat_le, int_le, if◌then◌else◌, ℤ, pos, negsuc, Bool, true, false, ◌&&◌, List, [], ◌∷◌, codes, Option, Some, None, Result, Ok, Err}
+use Rattle.std.specs.Int.{cast_signed, cast_unsigned, int_rem_euclid, int_wrap, w16, w32}
 use Rattle.std.specs.Str.{bytes_eq}
 use Rattle.or_asm_text.specs.declared.operands.Operands.{Operands}
 use Rattle.or_asm_text.specs.declared.operands.Slot.{Slot}
-use Rattle.or_asm_text.specs.declared.operands.Slot.TheVariants.{D, A, B, Signed, Half, HighHalf, LowHalf, Shift, Page, Target, Memory}
+use Rattle.or_asm_text.specs.declared.operands.Slot.TheVariants.{D, A, B, Signed, Half, OptionalHalf, HighHalf, LowHalf, Shift, Page, Target, Memory}
 use Rattle.or_asm_text.specs.Parts.{operands_with}
 use Rattle.or_asm_read.specs.declared.fault.Fault.{Fault}
 use Rattle.or_asm_read.specs.declared.fault.Fault.TheVariants.{BadLine, OutOfRange, UnknownLabel}
@@ -12,15 +12,9 @@ use Rattle.or_asm_read.specs.declared.operands.Operand.{Operand}
 use Rattle.or_asm_read.specs.Cuts.{is_label, before, after, has, trimmed}
 use Rattle.or_asm_read.specs.Faults.{lesser_fault}
 use Rattle.or_asm_read.specs.Labels.{Labels, place_of}
-use Rattle.or_asm_read.specs.Numbers.{number_of, register_of}
+use Rattle.or_asm_read.specs.Numbers.{is_hexadecimal, number_of, register_of}
 
 -- what is between the two, or a fault
-abbrev pub int_le : ℤ → ℤ → Bool
-int_le (pos m) (pos n) = nat_le m n
-int_le (pos m) (negsuc n) = false
-int_le (negsuc m) (pos n) = true
-int_le (negsuc m) (negsuc n) = nat_le n m
-
 abbrev pub within : ℤ → ℤ → ℤ → Result ℤ Fault
 within low high z = if int_le low z && int_le z high then Ok z else Err OutOfRange
 
@@ -44,6 +38,32 @@ register_at (Some r) = Ok (operand_of r (pos 0))
 abbrev pub number_at : ℤ → ℤ → List ℕ → Result Operand Fault
 number_at low high text = as_value (ranged low high (number_of text))
 
+-- an operand with what f makes of its number
+abbrev pub with_value : (ℤ → ℤ) → Result Operand Fault → Result Operand Fault
+with_value f (Ok x) = Ok (operand_of x.register (f x.value))
+with_value f (Err e) = Err e
+
+-- the 16 bits of a number, read without a sign
+abbrev pub unsigned_half : ℤ → ℤ
+unsigned_half z = int_rem_euclid z (pos 65536)
+
+-- K: 16 bits, spelled with or without a sign
+abbrev pub constant_at : List ℕ → Result Operand Fault
+constant_at text = with_value unsigned_half (number_at (negsuc 32767) (pos 65535) text)
+
+-- K, or nothing for 0
+abbrev pub optional_at : List ℕ → Result Operand Fault
+optional_at [] = Ok (operand_of 0 (pos 0))
+optional_at (b ∷ bs) = constant_at (b ∷ bs)
+
+-- the greatest number that may stand for I
+abbrev pub greatest_immediate : List ℕ → ℤ
+greatest_immediate text = if is_hexadecimal text then pos 65535 else pos 32767
+
+-- I: 16 bits with their sign, which hexadecimal digits may spell without it
+abbrev pub immediate_at : List ℕ → Result Operand Fault
+immediate_at text = with_value (int_wrap w16) (number_at (negsuc 32767) (greatest_immediate text) text)
+
 -- a text with brackets, as I(rA) or hi(label): what stands before them, and what stands in them
 unfoldable pub before_bracket : List ℕ → List ℕ
 before_bracket text = before 40 text
@@ -58,16 +78,6 @@ is_empty (x ∷ xs) = false
 unfoldable pub is_bracketed : List ℕ → Bool
 is_bracketed text = has 41 (after 40 text) && is_empty (after 41 (after 40 text))
 
--- half of a label's place
-abbrev pub half_at : (ℕ → ℕ) → Option ℕ → Result Operand Fault
-half_at part None = Err UnknownLabel
-half_at part (Some place) = as_value (within (pos 0) (pos 65535) (pos (part place)))
-
--- a half, or a name with a label in brackets
-abbrev pub half_or : List ℕ → (ℕ → ℕ) → Labels → List ℕ → Result Operand Fault
-half_or name part labels text = if is_bracketed text && bytes_eq (before_bracket text) name && is_label (in_brackets text)
-    then half_at part (place_of labels (in_brackets text)) else number_at (pos 0) (pos 65535) text
-
 -- a label's place, or a number
 abbrev pub place_at : Option ℕ → Result ℤ Fault
 place_at None = Err UnknownLabel
@@ -79,6 +89,21 @@ plain_at (Some z) = Ok z
 
 unfoldable pub value_at : Labels → List ℕ → Result ℤ Fault
 value_at labels text = if is_label text then place_at (place_of labels text) else plain_at (number_of text)
+
+-- the 32 bits of a value, spelled with or without a sign
+abbrev pub bits_of : Result ℤ Fault → Result ℕ Fault
+bits_of (Err e) = Err e
+bits_of (Ok z) = if int_le (negsuc 2147483647) z && int_le z (pos 4294967295) then Ok (cast_unsigned w32 z) else Err OutOfRange
+
+-- a half of 32 bits
+abbrev pub half_at : (ℕ → ℕ) → Result ℕ Fault → Result Operand Fault
+half_at part (Err e) = Err e
+half_at part (Ok word) = Ok (operand_of 0 (pos (part word)))
+
+-- K, or a name with a label or a number in brackets
+abbrev pub half_or : List ℕ → (ℕ → ℕ) → Labels → List ℕ → Result Operand Fault
+half_or name part labels text = if is_bracketed text && bytes_eq (before_bracket text) name
+    then half_at part (bits_of (value_at labels (in_brackets text))) else constant_at text
 
 -- the words from pc to a target that is an address of a word, where they fit
 abbrev pub offset_of : ℕ → ℕ → ℤ
@@ -103,17 +128,18 @@ address_operand value register = operand_of register.register value.value
 
 abbrev pub memory_at : List ℕ → Result Operand Fault
 memory_at text = if is_bracketed text
-    then lesser_fault address_operand (number_at (negsuc 32767) (pos 32767) (before_bracket text)) (register_at (register_of (in_brackets text)))
+    then lesser_fault address_operand (immediate_at (before_bracket text)) (register_at (register_of (in_brackets text)))
     else Err BadLine
 
 unfoldable pub slot_at : Labels → ℕ → Slot → List ℕ → Result Operand Fault
 slot_at labels pc D text = register_at (register_of text)
 slot_at labels pc A text = register_at (register_of text)
 slot_at labels pc B text = register_at (register_of text)
-slot_at labels pc Signed text = number_at (negsuc 32767) (pos 32767) text
-slot_at labels pc Half text = number_at (pos 0) (pos 65535) text
-slot_at labels pc HighHalf text = half_or (codes "hi") (λ place. place / 65536) labels text
-slot_at labels pc LowHalf text = half_or (codes "lo") (λ place. place % 65536) labels text
+slot_at labels pc Signed text = immediate_at text
+slot_at labels pc Half text = constant_at text
+slot_at labels pc OptionalHalf text = optional_at text
+slot_at labels pc HighHalf text = half_or (codes "hi") (λ word. word / 65536) labels text
+slot_at labels pc LowHalf text = half_or (codes "lo") (λ word. word % 65536) labels text
 slot_at labels pc Shift text = number_at (pos 0) (pos 63) text
 slot_at labels pc Page text = number_at (negsuc 1048575) (pos 1048575) text
 slot_at labels pc Target text = jump_at pc (value_at labels text)
@@ -126,6 +152,7 @@ placed A x o = operands_with o.d x.register o.b o.value
 placed B x o = operands_with o.d o.a x.register o.value
 placed Signed x o = operands_with o.d o.a o.b x.value
 placed Half x o = operands_with o.d o.a o.b x.value
+placed OptionalHalf x o = operands_with o.d o.a o.b x.value
 placed HighHalf x o = operands_with o.d o.a o.b x.value
 placed LowHalf x o = operands_with o.d o.a o.b x.value
 placed Shift x o = operands_with o.d o.a o.b x.value

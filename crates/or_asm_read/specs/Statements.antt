@@ -1,6 +1,5 @@
 -- What a statement does.
 use Rattle.std.specs.Prelude.{ℕ, ◌%◌, ◌^◌, ◌<◌, ◌==◌, nat_lt, if◌then◌else◌, ℤ, pos, negsuc, ◌&&◌, List, codes, Option, Some, None, Result, Ok, Err}
-use Rattle.std.specs.Int.{cast_unsigned, w32}
 use Rattle.std.specs.Str.{bytes_eq}
 use Rattle.or_isa.specs.Word.{word_of}
 use Rattle.or_isa.specs.declared.Insn.{Insn}
@@ -14,7 +13,7 @@ use Rattle.or_asm_read.specs.declared.statements.Statement.{Statement}
 use Rattle.or_asm_read.specs.declared.statements.Statement.TheVariants.{Nothing, Place, Word}
 use Rattle.or_asm_read.specs.Cuts.{trimmed, name_part, operands_part}
 use Rattle.or_asm_read.specs.Numbers.{number_of}
-use Rattle.or_asm_read.specs.Operands.{int_le, is_empty, value_at, operands_at}
+use Rattle.or_asm_read.specs.Operands.{is_empty, value_at, bits_of, operands_at}
 use Rattle.or_asm_read.specs.Labels.{Labels}
 
 -- a place that a statement sets is below 10000000 (hexadecimal)
@@ -31,9 +30,9 @@ org_at (Some (negsuc n)) = Err OutOfRange
 org_at (Some (pos n)) = if nat_lt n 0x10000000 && n % 4 == 0 then Ok (Place n) else Err OutOfRange
 
 -- .word: a label or a number of 32 bits, signed or not
-abbrev pub word_at : Result ℤ Fault → Result Statement Fault
+abbrev pub word_at : Result ℕ Fault → Result Statement Fault
 word_at (Err e) = Err e
-word_at (Ok z) = if int_le (negsuc 2147483647) z && int_le z (pos 4294967295) then Ok (Word (cast_unsigned w32 z)) else Err OutOfRange
+word_at (Ok word) = Ok (Word word)
 
 -- an instruction with the operands that were read
 abbrev pub made_of : Insn → Result Operands Fault → Result Statement Fault
@@ -47,7 +46,7 @@ insn_at labels pc (Some named) text = made_of named (operands_at labels pc (slot
 unfoldable pub named_at : Labels → ℕ → List ℕ → List ℕ → Result Statement Fault
 named_at labels pc name text =
     if bytes_eq name (codes ".org") then org_at (number_of (trimmed text))
-    else (if bytes_eq name (codes ".word") then word_at (value_at labels (trimmed text))
+    else (if bytes_eq name (codes ".word") then word_at (bits_of (value_at labels (trimmed text)))
     else insn_at labels pc (insn_named name) text)
 
 unfoldable pub statement_at : Labels → ℕ → List ℕ → Result Statement Fault

@@ -1,7 +1,7 @@
 // Numbers and registers.
 ghost use Rattle.std.specs.Prelude.{◌≡◌, ◌+◌, ◌*◌, ◌≤◌, ◌<◌, ◌^◌, min, IfSome};
 ghost use Rattle.std.specs.Char.{digit_value};
-ghost use Rattle.or_asm_read.specs.Numbers.{capped_value, magnitude_of, number_of, has_leading_zero, register_of};
+ghost use Rattle.or_asm_read.specs.Numbers.{capped_value, is_hexadecimal, magnitude_of, number_of, has_leading_zero, register_of};
 
 const TOO_LARGE: u64 = 1 << 32;
 
@@ -46,6 +46,16 @@ fn capped_value(base: u8, text: &[u8]) -> Option<u64>
         rest = others;
     }
     Some(value)
+}
+
+// Whether `0x` stands in front.
+pub(crate) fn is_hexadecimal(text: &[u8]) -> bool
+    ensures { result ≡ is_hexadecimal text.now }
+{
+    match text {
+        [b'0', b'x', ..] => true,
+        _ => false,
+    }
 }
 
 fn magnitude(text: &[u8]) -> Option<u64>

@@ -1,7 +1,8 @@
 // The operands of a statement.
-ghost use Rattle.std.specs.Prelude.{◌≡◌, ◌≤◌, ◌<◌, ◌^◌, ◌/◌, ◌%◌, ℕ, ℤ, pos, negsuc, codes, Option, Some, None, ◌&&◌};
+ghost use Rattle.std.specs.Prelude.{◌≡◌, ◌≤ℤ◌, ◌≤◌, ◌<◌, ◌^◌, ◌/◌, ◌%◌, ℕ, ℤ, pos, negsuc, codes, Option, Some, None, ◌&&◌};
+ghost use Rattle.std.specs.Int.{cast_unsigned, int_wrap, w16, w32};
 ghost use Rattle.std.specs.Str.{bytes_eq};
-ghost use Rattle.or_asm_read.specs.Operands.{as_value, is_empty, address_operand, within, ranged, number_at, register_at, before_bracket, in_brackets, is_bracketed, half_at, half_or, value_at, offset_of, quarter, jump_to, jump_at, memory_at, slot_at, placed, none_at, operands_at};
+ghost use Rattle.or_asm_read.specs.Operands.{as_value, with_value, unsigned_half, constant_at, optional_at, greatest_immediate, immediate_at, is_empty, address_operand, within, ranged, number_at, register_at, before_bracket, in_brackets, is_bracketed, bits_of, half_at, half_or, value_at, offset_of, quarter, jump_to, jump_at, memory_at, slot_at, placed, none_at, operands_at};
 ghost use Rattle.or_asm_read.specs.Numbers.{number_of, register_of};
 ghost use Rattle.or_asm_read.specs.Cuts.{is_label};
 ghost use Rattle.or_asm_read.specs.Faults.{lesser_fault};
@@ -9,7 +10,7 @@ ghost use Rattle.or_asm_read.specs.Faults.{lesser_fault};
 use crate::cuts::{after, before, has, is_label, trim};
 use crate::fault::{Fault, lesser};
 use crate::labels::LabelTable;
-use crate::numbers::{number, register};
+use crate::numbers::{is_hexadecimal, number, register};
 use or_asm_text::operands::{Operands, Slot};
 
 /// What an operand says: a register, a number, or both.
@@ -50,6 +51,60 @@ fn register_at(text: &[u8]) -> Result<Operand, Fault>
     }
 }
 
+// K: 16 bits, spelled with or without a sign.
+fn constant_at(text: &[u8]) -> Result<Operand, Fault>
+    ensures { result ≡ constant_at text.now }
+{
+    match number_at(-32768, 65535, text) {
+        Ok(Operand { register, value }) => Ok(Operand {
+            register,
+            value: value.rem_euclid(65536),
+        }),
+        Err(fault) => Err(fault),
+    }
+}
+
+// K, or nothing for 0.
+fn optional_at(text: &[u8]) -> Result<Operand, Fault>
+    ensures { result ≡ optional_at text.now }
+{
+    if is_empty(text) {
+        Ok(Operand {
+            register: 0,
+            value: 0,
+        })
+    } else {
+        constant_at(text)
+    }
+}
+
+// The greatest number that may stand for I.
+fn greatest_immediate(text: &[u8]) -> i32
+    ensures { result ≡ greatest_immediate text.now }
+{
+    if is_hexadecimal(text) { 65535 } else { 32767 }
+}
+
+// The low 16 bits of a number, read with their sign.
+fn signed_half(value: i32) -> i32
+    ensures { result ≡ int_wrap w16 value }
+{
+    i32::from((value.rem_euclid(65536) as u16).cast_signed())
+}
+
+// I: 16 bits with their sign, which hexadecimal digits may spell without it.
+fn immediate_at(text: &[u8]) -> Result<Operand, Fault>
+    ensures { result ≡ immediate_at text.now }
+{
+    match number_at(-32768, greatest_immediate(text), text) {
+        Ok(Operand { register, value }) => Ok(Operand {
+            register,
+            value: signed_half(value),
+        }),
+        Err(fault) => Err(fault),
+    }
+}
+
 #[tactic(auto, unfolding(crate::specs::Operands::before_bracket))]
 fn before_bracket(text: &[u8]) -> &[u8]
     ensures { result.now ≡ before_bracket text.now }
@@ -78,41 +133,9 @@ fn is_bracketed(text: &[u8]) -> bool
     has(b')', behind) && is_empty(after(b')', behind))
 }
 
-fn is_half_of(name: &[u8], text: &[u8]) -> bool
-    ensures { result ≡ (is_bracketed text.now && bytes_eq (before_bracket text.now) name.now && is_label (in_brackets text.now)) }
-{
-    is_bracketed(text) && before_bracket(text) == name && is_label(in_brackets(text))
-}
-
-fn high_at(labels: &LabelTable, text: &[u8]) -> Result<Operand, Fault>
-    ensures { result ≡ half_or (codes "hi") (λ place. place / 65536) labels.now text.now }
-{
-    if is_half_of(b"hi", text) {
-        match labels.place_of(in_brackets(text)) {
-            Some(place) => within(0, 65535, i64::from(place / 65536)),
-            None => Err(Fault::UnknownLabel),
-        }
-    } else {
-        number_at(0, 65535, text)
-    }
-}
-
-fn low_at(labels: &LabelTable, text: &[u8]) -> Result<Operand, Fault>
-    ensures { result ≡ half_or (codes "lo") (λ place. place % 65536) labels.now text.now }
-{
-    if is_half_of(b"lo", text) {
-        match labels.place_of(in_brackets(text)) {
-            Some(place) => within(0, 65535, i64::from(place % 65536)),
-            None => Err(Fault::UnknownLabel),
-        }
-    } else {
-        number_at(0, 65535, text)
-    }
-}
-
-/// A label's place, or a number.
+// A label's place, or a number.
 #[tactic(auto, unfolding(crate::specs::Operands::value_at))]
-pub fn value_at(labels: &LabelTable, text: &[u8]) -> Result<i64, Fault>
+fn value_at(labels: &LabelTable, text: &[u8]) -> Result<i64, Fault>
     ensures { result ≡ value_at labels.now text.now }
 {
     if is_label(text) {
@@ -125,6 +148,72 @@ pub fn value_at(labels: &LabelTable, text: &[u8]) -> Result<i64, Fault>
             Some(value) => Ok(value),
             None => Err(Fault::BadLine),
         }
+    }
+}
+
+fn low_word(value: i64) -> u32
+    requires low { negsuc 2147483647 ≤ℤ value }
+    requires high { value ≤ℤ pos 4294967295 }
+    ensures { result ≡ cast_unsigned w32 value }
+{
+    if value < 0 {
+        (value as i32).cast_unsigned()
+    } else {
+        value as u32
+    }
+}
+
+// The 32 bits of a label's place, or of a number from -2147483648 to 4294967295.
+pub(crate) fn bits_at(labels: &LabelTable, text: &[u8]) -> Result<u32, Fault>
+    ensures { result ≡ bits_of (value_at labels.now text.now) }
+{
+    match value_at(labels, text) {
+        Err(fault) => Err(fault),
+        Ok(value) => {
+            if -2_147_483_648 <= value && value <= 4_294_967_295 {
+                Ok(low_word(value))
+            } else {
+                Err(Fault::OutOfRange)
+            }
+        }
+    }
+}
+
+fn is_half_of(name: &[u8], text: &[u8]) -> bool
+    ensures { result ≡ (is_bracketed text.now && bytes_eq (before_bracket text.now) name.now) }
+{
+    is_bracketed(text) && before_bracket(text) == name
+}
+
+fn high_at(labels: &LabelTable, text: &[u8]) -> Result<Operand, Fault>
+    ensures { result ≡ half_or (codes "hi") (λ word. word / 65536) labels.now text.now }
+{
+    if is_half_of(b"hi", text) {
+        match bits_at(labels, in_brackets(text)) {
+            Ok(word) => Ok(Operand {
+                register: 0,
+                value: (word / 65536) as i32,
+            }),
+            Err(fault) => Err(fault),
+        }
+    } else {
+        constant_at(text)
+    }
+}
+
+fn low_at(labels: &LabelTable, text: &[u8]) -> Result<Operand, Fault>
+    ensures { result ≡ half_or (codes "lo") (λ word. word % 65536) labels.now text.now }
+{
+    if is_half_of(b"lo", text) {
+        match bits_at(labels, in_brackets(text)) {
+            Ok(word) => Ok(Operand {
+                register: 0,
+                value: (word % 65536) as i32,
+            }),
+            Err(fault) => Err(fault),
+        }
+    } else {
+        constant_at(text)
     }
 }
 
@@ -188,7 +277,7 @@ fn memory_at(text: &[u8]) -> Result<Operand, Fault>
 {
     if is_bracketed(text) {
         address_operand(
-            number_at(-32768, 32767, before_bracket(text)),
+            immediate_at(before_bracket(text)),
             register_at(in_brackets(text)),
         )
     } else {
@@ -204,8 +293,9 @@ fn slot_at(labels: &LabelTable, pc: u32, slot: Slot, text: &[u8]) -> Result<Oper
         Slot::D => register_at(text),
         Slot::A => register_at(text),
         Slot::B => register_at(text),
-        Slot::Signed => number_at(-32768, 32767, text),
-        Slot::Half => number_at(0, 65535, text),
+        Slot::Signed => immediate_at(text),
+        Slot::Half => constant_at(text),
+        Slot::OptionalHalf => optional_at(text),
         Slot::HighHalf => high_at(labels, text),
         Slot::LowHalf => low_at(labels, text),
         Slot::Shift => number_at(0, 63, text),

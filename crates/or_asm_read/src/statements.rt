@@ -1,8 +1,7 @@
 // What a statement does.
-ghost use Rattle.std.specs.Prelude.{◌≡◌, ◌≤ℤ◌, pos, negsuc};
-ghost use Rattle.std.specs.Int.{cast_unsigned, w32};
+ghost use Rattle.std.specs.Prelude.{◌≡◌};
 ghost use Rattle.or_asm_read.specs.Numbers.{number_of};
-ghost use Rattle.or_asm_read.specs.Operands.{value_at, operands_at};
+ghost use Rattle.or_asm_read.specs.Operands.{value_at, bits_of, operands_at};
 ghost use Rattle.or_asm_read.specs.Statements.{org_at, word_at, insn_at, made_of, named_at, statement_at, HasLowPlace};
 ghost use Rattle.or_asm_text.specs.Names.{insn_named};
 ghost use Rattle.or_asm_text.specs.Slots.{slots_of};
@@ -11,7 +10,7 @@ use crate::cuts::{name, operands, trim};
 use crate::fault::Fault;
 use crate::labels::LabelTable;
 use crate::numbers::number;
-use crate::operands::{is_empty, operands_at, value_at};
+use crate::operands::{bits_at, is_empty, operands_at};
 use or_asm_text::names::insn_named;
 use or_asm_text::operands::{slots, with_operands};
 use or_isa::{Insn, encode};
@@ -41,31 +40,13 @@ pub fn org_at(text: &[u8]) -> Result<Statement, Fault>
     }
 }
 
-fn low_word(value: i64) -> u32
-    requires low { negsuc 2147483647 ≤ℤ value }
-    requires high { value ≤ℤ pos 4294967295 }
-    ensures { result ≡ cast_unsigned w32 value }
-{
-    if value < 0 {
-        (value as i32).cast_unsigned()
-    } else {
-        value as u32
-    }
-}
-
 fn word_at(labels: &LabelTable, text: &[u8]) -> Result<Statement, Fault>
-    ensures is { result ≡ word_at (value_at labels.now text.now) }
+    ensures is { result ≡ word_at (bits_of (value_at labels.now text.now)) }
     ensures low { HasLowPlace result }
 {
-    match value_at(labels, text) {
+    match bits_at(labels, text) {
+        Ok(word) => Ok(Statement::Word(word)),
         Err(fault) => Err(fault),
-        Ok(value) => {
-            if -2_147_483_648 <= value && value <= 4_294_967_295 {
-                Ok(Statement::Word(low_word(value)))
-            } else {
-                Err(Fault::OutOfRange)
-            }
-        }
     }
 }
 

@@ -3,7 +3,7 @@ use Rattle.std.specs.Prelude.{◌≡◌, ◌^◌, ◌<◌, ℤ, pos, List, [], �
 use Rattle.or_isa.specs.Fits.{IsSigned}
 use Rattle.or_asm_text.specs.declared.operands.Operands.{Operands}
 use Rattle.or_asm_text.specs.declared.operands.Slot.{Slot}
-use Rattle.or_asm_text.specs.declared.operands.Slot.TheVariants.{D, A, B, Signed, Half, HighHalf, LowHalf, Shift, Page, Target, Memory}
+use Rattle.or_asm_text.specs.declared.operands.Slot.TheVariants.{D, A, B, Signed, Half, OptionalHalf, HighHalf, LowHalf, Shift, Page, Target, Memory}
 use Rattle.or_asm_text.specs.Parts.{operands_with, natural}
 
 pub record RegistersFit (o : Operands) : Type 0 where
@@ -19,6 +19,7 @@ ValueFits (A ∷ slots) z = ValueFits slots z
 ValueFits (B ∷ slots) z = ValueFits slots z
 ValueFits (Signed ∷ slots) z = IsSigned 15 z
 ValueFits (Half ∷ slots) z = natural z < 2 ^ 16
+ValueFits (OptionalHalf ∷ slots) z = natural z < 2 ^ 16
 ValueFits (HighHalf ∷ slots) z = natural z < 2 ^ 16
 ValueFits (LowHalf ∷ slots) z = natural z < 2 ^ 16
 ValueFits (Shift ∷ slots) z = natural z < 2 ^ 6
@@ -34,6 +35,7 @@ fill B o p = operands_with p.d p.a o.b p.value
 fill Memory o p = operands_with p.d o.a p.b o.value
 fill Signed o p = operands_with p.d p.a p.b o.value
 fill Half o p = operands_with p.d p.a p.b o.value
+fill OptionalHalf o p = operands_with p.d p.a p.b o.value
 fill HighHalf o p = operands_with p.d p.a p.b o.value
 fill LowHalf o p = operands_with p.d p.a p.b o.value
 fill Shift o p = operands_with p.d p.a p.b o.value

@@ -7,7 +7,7 @@ use Rattle.or_text.specs.Hexadecimal.{hexadecimal}
 use Rattle.or_isa.specs.declared.Insn.{Insn}
 use Rattle.or_asm_text.specs.declared.operands.Operands.{Operands}
 use Rattle.or_asm_text.specs.declared.operands.Slot.{Slot}
-use Rattle.or_asm_text.specs.declared.operands.Slot.TheVariants.{D, A, B, Signed, Half, HighHalf, LowHalf, Shift, Page, Target, Memory}
+use Rattle.or_asm_text.specs.declared.operands.Slot.TheVariants.{D, A, B, Signed, Half, OptionalHalf, HighHalf, LowHalf, Shift, Page, Target, Memory}
 use Rattle.or_asm_text.specs.Names.{name_of}
 use Rattle.or_asm_text.specs.Slots.{slots_of}
 use Rattle.or_asm_text.specs.Parts.{operands_of, natural}
@@ -25,6 +25,7 @@ slot_text pc A o = register_text o.a
 slot_text pc B o = register_text o.b
 slot_text pc Signed o = signed_decimal o.value
 slot_text pc Half o = hexadecimal (natural o.value)
+slot_text pc OptionalHalf o = hexadecimal (natural o.value)
 slot_text pc HighHalf o = hexadecimal (natural o.value)
 slot_text pc LowHalf o = hexadecimal (natural o.value)
 slot_text pc Shift o = signed_decimal o.value

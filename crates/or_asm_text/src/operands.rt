@@ -23,9 +23,11 @@ pub enum Slot {
     Signed,
     /// An unsigned constant of 16 bits.
     Half,
-    /// An unsigned constant of 16 bits, which may be the upper half of a label's address.
+    /// An unsigned constant of 16 bits, which is 0 if it is left out.
+    OptionalHalf,
+    /// An unsigned constant of 16 bits, which may be the upper half of a label's address or of a number.
     HighHalf,
-    /// An unsigned constant of 16 bits, which may be the lower half of a label's address.
+    /// An unsigned constant of 16 bits, which may be the lower half of a label's address or of a number.
     LowHalf,
     /// A shift length of 6 bits.
     Shift,
@@ -59,7 +61,8 @@ pub fn slots(insn: &Insn) -> &'static [Slot]
         Insn::Jump { .. } | Insn::Branch { .. } => &[Slot::Target],
         Insn::JumpRegister { .. } => &[Slot::B],
         Insn::PageAddress { .. } => &[Slot::D, Slot::Page],
-        Insn::Nop { .. } | Insn::SystemCall { .. } | Insn::Trap { .. } => &[Slot::Half],
+        Insn::Nop { .. } => &[Slot::OptionalHalf],
+        Insn::SystemCall { .. } | Insn::Trap { .. } => &[Slot::Half],
         Insn::MoveHigh { .. } => &[Slot::D, Slot::HighHalf],
         Insn::TakeAccumulator { .. } => &[Slot::D],
         Insn::Sync { .. } | Insn::ReturnFromException => &[],

@@ -40,7 +40,7 @@ fn append_slot(
         Slot::A => append_register(operands.a, out),
         Slot::B => append_register(operands.b, out),
         Slot::Signed | Slot::Shift | Slot::Page => append_signed(operands.value, out),
-        Slot::Half | Slot::HighHalf | Slot::LowHalf => {
+        Slot::Half | Slot::OptionalHalf | Slot::HighHalf | Slot::LowHalf => {
             append_hexadecimal(natural(operands.value), out)
         }
         Slot::Target => append_hexadecimal(target(pc, operands.value), out),

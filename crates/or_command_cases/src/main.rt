@@ -16,11 +16,12 @@ use std::process::ExitCode;
 use std::sync::Wait;
 use std::thread::Threads;
 
-const FILES: [&str; 7] = [
+const FILES: [&str; 8] = [
     "host.cases",
     "images.cases",
     "line.cases",
     "source.cases",
+    "spellings.cases",
     "run.cases",
     "look.cases",
     "hunt.cases",
