@@ -315,7 +315,7 @@ impl Bus {
     }
 
     /// Writes RAM and the core's line or none, and ends the lines and the reservations that the write makes stale.
-    #[inline]
+    #[inline(always)]
     pub(crate) fn write(&mut self, core: u32, pa: u32, width: Width, v: u32, cached: bool)
         requires core { core < self.old.cores }
         requires inside { pa < length self.old.ram }
@@ -462,7 +462,7 @@ impl Bus {
 }
 
 // Writes RAM and the core's line, where the store is cached, and drops all other lines of the address.
-#[inline]
+#[inline(always)]
 fn write_through(
     ram: &mut Ram,
     caches: &mut DCaches,

@@ -23,6 +23,7 @@ use or_words::Width;
 
 impl Bus {
     // A cached load did not find its line, and brings it.
+    #[inline(never)]
     fn miss(&mut self, core: u32, pa: u32) -> [u8; 32]
         requires core { core < self.old.cores }
         requires inside { pa < length self.old.ram }
@@ -41,7 +42,7 @@ impl Bus {
     }
 
     // The word at an address, through the core's cache.
-    #[inline]
+    #[inline(always)]
     fn load_cached(&mut self, core: u32, pa: u32) -> u32
         requires core { core < self.old.cores }
         requires inside { pa < length self.old.ram }
@@ -79,7 +80,7 @@ impl Bus {
     }
 
     // The word at an address.
-    #[inline]
+    #[inline(always)]
     fn load_word(&mut self, core: u32, pa: u32, cached: bool) -> u32
         requires core { core < self.old.cores }
         requires inside { pa < length self.old.ram }
@@ -99,7 +100,7 @@ impl Bus {
     }
 
     // The value at an address, made of the word that it lies in.
-    #[inline]
+    #[inline(always)]
     #[tactic(auto, using(crate::proofs::Ranges::parts))]
     fn load_part(&mut self, core: u32, pa: u32, width: Width, cached: bool) -> u32
         requires core { core < self.old.cores }
@@ -118,7 +119,7 @@ impl Bus {
     }
 
     // A load from RAM.
-    #[inline]
+    #[inline(always)]
     fn load_ram(&mut self, core: u32, pa: u32, width: Width, cached: bool) -> u32
         requires core { core < self.old.cores }
         requires inside { pa < length self.old.ram }
@@ -160,6 +161,7 @@ impl Bus {
     /// A load at an address that is aligned for its width; the value is zero-extended. RAM answers any width, through
     /// the core's data cache or past it; the UART answers bytes and the ompic words. Where nothing answers it is a bus
     /// error, and nothing changes.
+    #[inline(always)]
     pub fn load(&mut self, core: u32, pa: u32, width: Width, cached: bool) -> Result<u32, BusError>
         requires core { core < self.old.cores }
         requires aligned { pa % bytes_of width ≡ 0 }

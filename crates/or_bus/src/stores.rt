@@ -16,7 +16,7 @@ use or_words::Width;
 
 impl Bus {
     // A store to RAM.
-    #[inline]
+    #[inline(always)]
     #[tactic(auto, using(crate::proofs::Worlds::track_store))]
     fn store_ram(
         &mut self,
@@ -59,6 +59,7 @@ impl Bus {
     /// reservations of the word end, other cores lose the line, and the storing core's own line is updated where the
     /// store is cached, and lost where it is not. The UART answers bytes, and may take one byte of the console's room;
     /// the ompic answers words. Where nothing answers it is a bus error, and nothing changes.
+    #[inline(always)]
     pub fn store(
         &mut self,
         core: u32,

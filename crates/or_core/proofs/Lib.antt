@@ -2,6 +2,7 @@ pub mod Accesses
 pub mod Aligned
 pub mod Begins
 pub mod Controls
+pub mod InPlace
 pub mod Nexts
 pub mod Pages
 pub mod Progress

@@ -38,7 +38,7 @@ fn size_of(width: Width) -> u32
 
 impl Core {
     // Where a load or a store goes.
-    #[inline]
+    #[inline(always)]
     #[tactic(auto, using(crate::proofs::Aligned::same_aligned), unfolding(or_model::specs::Routes::data_route))]
     fn data_route(&self, ea: u32, width: Width, right: Right) -> Route
         requires { is_fetch right ≡ false }
@@ -63,6 +63,7 @@ impl Core {
     }
 
     // Loads into register d.
+    #[inline(always)]
     #[tactic(auto, unfolding(or_model::specs::DataAccess::loaded, or_model::specs::Execute::put))]
     pub(crate) fn load(
         &mut self,
@@ -117,6 +118,7 @@ impl Core {
     }
 
     // Stores the low bits of a word.
+    #[inline(always)]
     #[tactic(auto, unfolding(or_model::specs::DataAccess::stored_value))]
     pub(crate) fn store(
         &mut self,

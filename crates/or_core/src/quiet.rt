@@ -22,17 +22,24 @@ const MODE: u32 = 0x4000_0000;
 pub(crate) struct Stretch {
     /// How many steps were made, at most 256.
     pub(crate) made: u32,
-    /// What the next one executes, where it is known to ask the bus.
-    pub(crate) ahead: Option<Insn>,
+    /// Whether the next one is known to ask the bus. An `Option` of what it executes would go through memory.
+    pub(crate) asks: bool,
+    /// What it then executes.
+    pub(crate) insn: Insn,
 }
 
 impl Stretch {
     // Steps behind which nothing is known.
     #[inline(always)]
     fn of(made: u32) -> Stretch
-        ensures { result ≡ record { made = made; ahead = None } }
+        ensures made { result.made ≡ made }
+        ensures asks { IsFalse result.asks }
     {
-        Stretch { made, ahead: None }
+        Stretch {
+            made,
+            asks: false,
+            insn: Insn::Nop { k: 0 },
+        }
     }
 }
 
@@ -123,17 +130,13 @@ impl Core {
         }
     }
 
-    // An instruction that is executed next, where it asks the bus.
+    // Whether an instruction that is executed next asks the bus.
     #[inline(always)]
-    fn asking(&self, insn: Insn) -> Option<Insn>
-        requires { IsExecuted self.now (Some insn) }
-        ensures { IfSome result (IsAhead self.now) }
+    fn is_asking(&self, insn: &Insn) -> bool
+        requires { IsExecuted self.now (Some insn.now) }
+        ensures { IsTrue result → IsAhead self.now insn.now }
     {
-        if needs_bus(&insn, self.spr_number(&insn)) {
-            Some(insn)
-        } else {
-            None
-        }
+        needs_bus(insn, self.spr_number(insn))
     }
 
     // The first steps of a turn, while the core is quiet and executes plain instructions of held lines.
@@ -142,7 +145,7 @@ impl Core {
         requires { self.old.stop ≡ None }
         ensures left { begun_within 256 self.old ≡ begun_within (256 - result.made) self.new }
         ensures few { result.made ≤ 256 }
-        ensures ahead { IfSome result.ahead (λ insn. IsAhead self.new insn × (result.made < 256)) }
+        ensures ahead { IsTrue result.asks → IsAhead self.new result.insn × (result.made < 256) }
         ensures running { self.new.stop ≡ None }
         ensures settings { SameSettings self.old self.new }
     {
@@ -157,7 +160,8 @@ impl Core {
             if !is_plain(&insn) {
                 return Stretch {
                     made,
-                    ahead: self.asking(insn),
+                    asks: self.is_asking(&insn),
+                    insn,
                 };
             }
             if !self.plain_step(insn) {

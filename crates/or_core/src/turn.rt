@@ -1,6 +1,6 @@
 //! Turns of a core.
 
-ghost use Rattle.std.specs.Prelude.{◌≡◌, ◌<◌, ◌≤◌, ◌+◌, if◌then◌else◌, None, IsTrue, IsSome, IfSome, [], ◌++◌, length};
+ghost use Rattle.std.specs.Prelude.{◌≡◌, ◌<◌, ◌≤◌, ◌+◌, if◌then◌else◌, None, IsTrue, IsFalse, [], ◌++◌, length};
 ghost use Rattle.std.specs.Option.{option_or};
 ghost use Rattle.or_model.specs.World.{World};
 ghost use Rattle.or_model.specs.Step.{step};
@@ -24,8 +24,25 @@ use or_words::limits::MOST_PRIVATE_STEPS;
 struct Begun {
     // Whether a step on the bus follows.
     follows: bool,
-    // What that step executes, where it is known.
-    ahead: Option<Insn>,
+    // Whether that step is known to ask the bus.
+    asks: bool,
+    // What it then executes.
+    insn: Insn,
+}
+
+impl Begun {
+    // Nothing is known of a step on the bus, if one follows.
+    #[inline(always)]
+    fn of(follows: bool) -> Begun
+        ensures follows { result.follows ≡ follows }
+        ensures asks { IsFalse result.asks }
+    {
+        Begun {
+            follows,
+            asks: false,
+            insn: Insn::Nop { k: 0 },
+        }
+    }
 }
 
 impl Core {
@@ -34,46 +51,34 @@ impl Core {
     fn begin(&mut self) -> Begun
         requires { self.old.stop ≡ None }
         ensures begun { turn_begun self.old ≡ record { core = self.new; follows = result.follows } }
-        ensures ahead { IfSome result.ahead (IsAhead self.new) }
-        ensures known { IsSome result.ahead → IsTrue result.follows }
+        ensures ahead { IsTrue result.asks → IsAhead self.new result.insn }
+        ensures known { IsTrue result.asks → IsTrue result.follows }
         ensures running { IsTrue result.follows → self.new.stop ≡ None }
         ensures settings { SameSettings self.old self.new }
     {
         let quiet = self.quiet_steps();
-        if quiet.ahead.is_some() {
+        if quiet.asks {
             return Begun {
                 follows: true,
-                ahead: quiet.ahead,
+                asks: true,
+                insn: quiet.insn,
             };
         }
         for made in quiet.made..MOST_PRIVATE_STEPS {
             match self.try_private() {
                 Private::Stepped => {}
-                Private::NeedsBus => {
-                    return Begun {
-                        follows: true,
-                        ahead: None,
-                    };
-                }
-                Private::Stopped => {
-                    return Begun {
-                        follows: false,
-                        ahead: None,
-                    };
-                }
+                Private::NeedsBus => return Begun::of(true),
+                Private::Stopped => return Begun::of(false),
             }
         }
-        Begun {
-            follows: false,
-            ahead: None,
-        }
+        Begun::of(false)
     }
 
     // Makes the step on the bus, if one follows.
     #[inline(always)]
     fn step_ahead(&mut self, bus: &mut Bus, begun: Begun)
-        requires ahead { IfSome begun.ahead (IsAhead self.old) }
-        requires follows { IsSome begun.ahead → IsTrue begun.follows }
+        requires ahead { IsTrue begun.asks → IsAhead self.old begun.insn }
+        requires follows { IsTrue begun.asks → IsTrue begun.follows }
         requires running { IsTrue begun.follows → self.old.stop ≡ None }
         requires known { self.old.number < bus.old.cores }
         requires spare { 0 < bus.old.spare }
@@ -83,13 +88,10 @@ impl Core {
         ensures access { (world : World) → Represents bus.old world → bus.new.last ≡ option_or (if begun.follows then step_access self.old world else None) bus.old.last }
         ensures bus { KeepsBus bus.old bus.new }
     {
-        match begun.ahead {
-            Some(insn) => self.step_asking(bus, insn),
-            None => {
-                if begun.follows {
-                    self.step(bus);
-                }
-            }
+        if begun.asks {
+            self.step_asking(bus, begun.insn);
+        } else if begun.follows {
+            self.step(bus);
         }
     }
 
@@ -107,8 +109,8 @@ impl Core {
     #[inline(always)]
     #[tactic(auto, unfolding(or_model::specs::Turn::turn_ended))]
     fn end(&mut self, bus: &mut Bus, begun: Begun)
-        requires ahead { IfSome begun.ahead (IsAhead self.old) }
-        requires follows { IsSome begun.ahead → IsTrue begun.follows }
+        requires ahead { IsTrue begun.asks → IsAhead self.old begun.insn }
+        requires follows { IsTrue begun.asks → IsTrue begun.follows }
         requires running { IsTrue begun.follows → self.old.stop ≡ None }
         requires known { self.old.number < bus.old.cores }
         requires spare { 0 < bus.old.spare }
@@ -134,13 +136,7 @@ impl Core {
         ensures access { (world : World) → Represents bus.old world → bus.new.last ≡ option_or (if follows then step_access self.old world else None) bus.old.last }
         ensures bus { KeepsBus bus.old bus.new }
     {
-        self.end(
-            bus,
-            Begun {
-                follows,
-                ahead: None,
-            },
-        );
+        self.end(bus, Begun::of(follows));
     }
 
     /// Makes one turn: private steps, at most 256, then a step on the bus where fewer were made and

@@ -41,7 +41,7 @@ impl Tick {
 
     /// Counts one retired instruction, by the mode M: 0 does not count, 1 starts again at the
     /// period, 2 stops there, 3 goes on. At the period IP is set if IE is.
-    #[inline]
+    #[inline(always)]
     #[tactic(auto, unfolding(or_parts::specs::Timer::ticked))]
     pub fn retire(&mut self)
         ensures { self.new ≡ ticked self.old.mode self.old.count }
