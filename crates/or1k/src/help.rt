@@ -83,11 +83,12 @@ const COMMANDS: [Help; 11] = [
     },
     Help {
         name: "race",
-        words: "IMAGE INPUT SCHED",
+        words: "IMAGE INPUT SCHED [--locks]",
         text: "    Follows a recorded run, and writes to standard output the words of RAM with a data race, each with the turns and cores
     of two racing accesses. An l.swa that stored is ordered before later l.lwa of its word; a plain store orders nothing.
+    --locks          a word that l.lwa or l.swa accesses is a lock: a plain store frees it, and it does not race
 ",
-        example: "or1k race program.elf - program.sched",
+        example: "or1k race program.elf - program.sched --locks",
     },
     Help {
         name: "prof",

@@ -56,7 +56,7 @@ CommandEnds (debug files script) status old new = AnswersBy (debug_loads files s
 CommandEnds (gen workload source) status old new = Answers gen_loads gen_check (GenWrites workload source) LeavesAll status old new
 CommandEnds (bench workload schedule stay) status old new = Answers bench_loads (bench_check workload) (BenchWrites workload schedule) LeavesAll status old new
 CommandEnds (back files script every) status old new = AnswersBy (back_loads files script) (BackVerdict files script) (BackWrites files) LeavesAll status old new
-CommandEnds (race files) status old new = AnswersBy (race_loads files) (RaceVerdict files) (RaceWrites files) LeavesAll status old new
+CommandEnds (race files options) status old new = AnswersBy (race_loads files) (RaceVerdict files options) (RaceWrites files options) LeavesAll status old new
 CommandEnds (prof files) status old new = AnswersBy (prof_loads files) (ProfVerdict files) (ProfWrites files) LeavesAll status old new
 
 -- where no fault came, the files decide the status, or memory ran out; of a run 15 may stand for 0 where that is asked for
@@ -70,5 +70,5 @@ IsComplete (debug files script) status old new = IsDecidedBy (debug_loads files 
 IsComplete (gen workload source) status old new = IsDecided gen_loads gen_check (GenWrites workload source) LeavesAll status old new
 IsComplete (bench workload schedule stay) status old new = IsDecided bench_loads (bench_check workload) (BenchWrites workload schedule) LeavesAll status old new
 IsComplete (back files script every) status old new = IsDecidedBy (back_loads files script) (BackVerdict files script) (BackWrites files) LeavesAll status old new
-IsComplete (race files) status old new = IsDecidedBy (race_loads files) (RaceVerdict files) (RaceWrites files) LeavesAll status old new
+IsComplete (race files options) status old new = IsDecidedBy (race_loads files) (RaceVerdict files options) (RaceWrites files options) LeavesAll status old new
 IsComplete (prof files) status old new = IsDecidedBy (prof_loads files) (ProfVerdict files) (ProfWrites files) LeavesAll status old new

@@ -26,7 +26,7 @@ use or_command::{conclude, say_usage};
 use or_command_back::back;
 use or_command_debug::debug;
 use or_command_hunt::hunt;
-use or_command_line::{Command, Hunt, Recorded, Run, Workload, parse};
+use or_command_line::{Command, Hunt, RaceOptions, Recorded, Run, Workload, parse};
 use or_command_prof::prof;
 use or_command_run::{bench, run, run_status};
 use or_command_source::{asm, dis, generate};
@@ -160,11 +160,16 @@ fn back_command<H: Host>(
 }
 
 // Reports the races of a recorded run, and says how that ended.
-fn race_command<H: Host>(alloc: Global, names: &Recorded<'_>, host: &mut H) -> u8
+fn race_command<H: Host>(
+    alloc: Global,
+    names: &Recorded<'_>,
+    options: RaceOptions,
+    host: &mut H,
+) -> u8
     requires names { AreRecorded (recorded_names names.now) }
-    ensures ends { AnswersBy (race_loads (recorded_names names.now)) (RaceVerdict (recorded_names names.now)) (RaceWrites (recorded_names names.now)) LeavesAll
+    ensures ends { AnswersBy (race_loads (recorded_names names.now)) (RaceVerdict (recorded_names names.now) options) (RaceWrites (recorded_names names.now) options) LeavesAll
         result (H.state host.old) (H.state host.new) }
-    ensures complete { IsDecidedBy (race_loads (recorded_names names.now)) (RaceVerdict (recorded_names names.now)) (RaceWrites (recorded_names names.now)) LeavesAll
+    ensures complete { IsDecidedBy (race_loads (recorded_names names.now)) (RaceVerdict (recorded_names names.now) options) (RaceWrites (recorded_names names.now) options) LeavesAll
         result (H.state host.old) (H.state host.new) }
     ensures command { result ≢ 2 }
 {
@@ -173,7 +178,11 @@ fn race_command<H: Host>(alloc: Global, names: &Recorded<'_>, host: &mut H) -> u
         script: None,
         report: None,
     };
-    recorded_command(alloc, &names, &Race, host)
+    if options.locks {
+        recorded_command(alloc, &names, &Race::<true>, host)
+    } else {
+        recorded_command(alloc, &names, &Race::<false>, host)
+    }
 }
 
 // Profiles a recorded run, and says how that ended.
@@ -253,7 +262,7 @@ pub fn top_alone<H: Host>(alloc: Global, words: &[String], host: &mut H) -> u8
                 every,
             },
         ) => back_command(alloc, &files, script, every, host),
-        Some(Command::Race { files }) => race_command(alloc, &files, host),
+        Some(Command::Race { files, options }) => race_command(alloc, &files, options, host),
         Some(Command::Prof { files }) => prof_command(alloc, &files, host),
         _ => refuse_words(host),
     }

@@ -16,7 +16,7 @@ use std::process::ExitCode;
 use std::sync::Wait;
 use std::thread::Threads;
 
-const FILES: [&str; 8] = [
+const FILES: [&str; 9] = [
     "host.cases",
     "images.cases",
     "line.cases",
@@ -25,6 +25,7 @@ const FILES: [&str; 8] = [
     "run.cases",
     "look.cases",
     "hunt.cases",
+    "locks.cases",
 ];
 
 // Does what the lines of a file say.

@@ -119,9 +119,9 @@ fn print_command<R: Print>(rt: &R, command: &Command<'_>) -> Result<(), CaseFaul
             print_recorded(rt, "back", files)?;
             println!(rt; " {script} every {every}")?;
         }
-        Command::Race { files } => {
+        Command::Race { files, options } => {
             print_recorded(rt, "race", files)?;
-            println!(rt; "")?;
+            println!(rt; "{}", if options.locks { " locks" } else { "" })?;
         }
         Command::Prof { files } => {
             print_recorded(rt, "prof", files)?;

@@ -4,12 +4,13 @@ use Rattle.std.specs.Str.{bytes_eq}
 use Rattle.or_words.specs.Settings.{Fits}
 use Rattle.or_command_line.specs.declared.RunOptions.{RunOptions}
 use Rattle.or_command_line.specs.declared.HuntOptions.{HuntOptions}
+use Rattle.or_command_line.specs.declared.RaceOptions.{RaceOptions}
 use Rattle.or_command_line.specs.declared.Workload.{Workload}
 use Rattle.or_command_line.specs.declared.Command.{Command}
 use Rattle.or_command_line.specs.declared.Command.TheVariants.{Run as IsRun, Hunt as IsHunt, Replay as IsReplay, Asm as IsAsm, Dis as IsDis, Debug as IsDebug, Gen as IsGen, Bench as IsBench, Back as IsBack, Race as IsRace, Prof as IsProf}
 use Rattle.or_command_line.specs.Words.{is_name, differ, IsFileName}
 use Rattle.or_command_line.specs.Names.{Names, Recorded, recorded_names, run_names, hunt_names, are_recorded, is_report, are_run_names, AreRecorded, IsReport, AreWritten, IsAssembly}
-use Rattle.or_command_line.specs.Settings.{run_options_of, hunt_options_of, stay_alone_of, every_of, FitsStay, FitsHunt, FitsEvery, symbols_alone_of}
+use Rattle.or_command_line.specs.Settings.{run_options_of, hunt_options_of, stay_alone_of, every_of, FitsStay, FitsHunt, FitsEvery, symbols_alone_of, race_options_of}
 use Rattle.or_command_line.specs.Workloads.{workload_of, FitsWorkload}
 
 -- a command as contracts see it
@@ -23,7 +24,7 @@ pub data Shown : Type 0 where
   gen : Workload → List ℕ → Shown
   bench : Workload → List ℕ → ℕ → Shown
   back : Recorded → List ℕ → ℕ → Shown
-  race : Recorded → Shown
+  race : Recorded → RaceOptions → Shown
   prof : Recorded → Shown
 
 abbrev pub run_with : Names → Option RunOptions → Option Shown
@@ -92,6 +93,18 @@ unfoldable pub back_of : List (List ℕ) → Option Shown
 back_of (image ∷ input ∷ schedule ∷ script ∷ options) = back_where (record { image = image; input = input; schedule = schedule }) script options
 back_of _ = None
 
+-- `IMAGE INPUT SCHED [--locks]`
+abbrev pub race_with : Recorded → Option RaceOptions → Option Shown
+race_with files None = None
+race_with files (Some options) = Some (race files options)
+
+abbrev pub race_where : Recorded → List (List ℕ) → Option Shown
+race_where files options = if are_recorded files then race_with files (race_options_of options) else None
+
+unfoldable pub race_of : List (List ℕ) → Option Shown
+race_of (image ∷ input ∷ schedule ∷ options) = race_where (record { image = image; input = input; schedule = schedule }) options
+race_of _ = None
+
 -- `IMAGE INPUT SCHED`
 abbrev pub recorded_where : Recorded → Option Recorded
 recorded_where files = if are_recorded files then Some files else None
@@ -99,10 +112,6 @@ recorded_where files = if are_recorded files then Some files else None
 unfoldable pub recorded_of : List (List ℕ) → Option Recorded
 recorded_of (image ∷ input ∷ schedule ∷ []) = recorded_where (record { image = image; input = input; schedule = schedule })
 recorded_of _ = None
-
-abbrev pub as_race : Option Recorded → Option Shown
-as_race None = None
-as_race (Some files) = Some (race files)
 
 abbrev pub as_prof : Option Recorded → Option Shown
 as_prof None = None
@@ -148,7 +157,7 @@ command_of (verb ∷ words) =
     if bytes_eq verb (codes "replay") then replay_of words else
     if bytes_eq verb (codes "debug") then debug_of words else
     if bytes_eq verb (codes "back") then back_of words else
-    if bytes_eq verb (codes "race") then as_race (recorded_of words) else
+    if bytes_eq verb (codes "race") then race_of words else
     if bytes_eq verb (codes "prof") then as_prof (recorded_of words) else
     program_command verb words
 
@@ -163,7 +172,7 @@ shown_command (IsDebug files script) = debug (recorded_names files) script.now
 shown_command (IsGen workload source) = gen workload source.now
 shown_command (IsBench workload schedule stay) = bench workload schedule.now stay
 shown_command (IsBack files script every) = back (recorded_names files) script.now every
-shown_command (IsRace files) = race (recorded_names files)
+shown_command (IsRace files options) = race (recorded_names files) options
 shown_command (IsProf files) = prof (recorded_names files)
 
 -- the names of a command are names of files, the written ones differ from each other one, and its numbers are in their ranges
@@ -177,5 +186,5 @@ AreNamesOf (debug files script) = AreRecorded files × IsFileName script
 AreNamesOf (gen workload source) = FitsWorkload workload × IsFileName source
 AreNamesOf (bench workload schedule stay) = FitsWorkload workload × IsFileName schedule × FitsStay stay
 AreNamesOf (back files script every) = AreRecorded files × IsFileName script × FitsEvery every
-AreNamesOf (race files) = AreRecorded files
+AreNamesOf (race files options) = AreRecorded files
 AreNamesOf (prof files) = AreRecorded files

@@ -1,5 +1,5 @@
 -- Words that are read one after another until one is wrong, and what is said of it.
-use Rattle.std.specs.Prelude.{ℕ, List, [], ◌∷◌, ◌++◌, Bool, true, false, not, ◌==◌, ◌&&◌, ◌||◌, nat_le, if◌then◌else◌, Option, Some, None, Result, Ok, Err, codes}
+use Rattle.std.specs.Prelude.{ℕ, List, [], ◌∷◌, ◌++◌, Bool, false, not, ◌==◌, ◌&&◌, ◌||◌, nat_le, if◌then◌else◌, Option, Some, None, Result, Ok, Err, codes}
 use Rattle.std.specs.List.{list_any}
 use Rattle.std.specs.Str.{bytes_eq}
 use Rattle.or_text.specs.declared.sentence.Sentence.{Sentence}
@@ -47,6 +47,7 @@ is_option verb word =
     || (bytes_eq word (codes "--pic") || (bytes_eq word (codes "--stay") || bytes_eq word (codes "--status"))))) else
     if bytes_eq verb (codes "back") then bytes_eq word (codes "--every") else
     if bytes_eq verb (codes "bench") then bytes_eq word (codes "--stay") else
+    if bytes_eq verb (codes "race") then bytes_eq word (codes "--locks") else
     false
 
 abbrev pub missing : List ℕ → List ℕ → List ℕ

@@ -5,6 +5,7 @@ use Rattle.or_words.specs.declared.Config.{Config}
 use Rattle.or_words.specs.declared.limits.TheConstants.{MOST_CORES, MOST_BUDGET, MOST_RAM, MOST_STAY}
 use Rattle.or_command_line.specs.declared.RunOptions.{RunOptions}
 use Rattle.or_command_line.specs.declared.HuntOptions.{HuntOptions}
+use Rattle.or_command_line.specs.declared.RaceOptions.{RaceOptions}
 use Rattle.or_text.specs.Numerals.{decimal_of}
 
 abbrev pub with_rest : {A : Type 0} → List (List ℕ) → Option A → Option (A × List (List ℕ))
@@ -138,6 +139,14 @@ flag_without_rest (given, word ∷ rest) = None
 -- the option `[--symbols]` alone; none where another word stands
 unfoldable pub symbols_alone_of : List (List ℕ) → Option Bool
 symbols_alone_of words = flag_without_rest (flag_of (codes "--symbols") words)
+
+abbrev pub race_options_with : Bool × List (List ℕ) → Option RaceOptions
+race_options_with (locks, []) = Some (record { locks = locks })
+race_options_with (locks, word ∷ rest) = None
+
+-- the options of a race report: `[--locks]`; none where a word is no option here
+unfoldable pub race_options_of : List (List ℕ) → Option RaceOptions
+race_options_of words = race_options_with (flag_of (codes "--locks") words)
 
 -- turns between two checkpoints: 1 to 2 ^ 29
 abbrev pub every_fits : ℕ → Bool

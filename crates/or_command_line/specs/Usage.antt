@@ -69,6 +69,10 @@ debug_usage words = then_end (codes "debug") words (session_words (codes "debug"
 abbrev pub back_usage : List (List ℕ) → List ℕ
 back_usage words = then_end (codes "back") words (then_option (codes "back") (codes "--every") (Number 1 536870912) (session_words (codes "back") words))
 
+-- `IMAGE INPUT SCHED [--locks]`
+abbrev pub race_usage : List (List ℕ) → List ℕ
+race_usage words = then_end (codes "race") words (then_flag (codes "--locks") (recorded_words (codes "race") words))
+
 -- `IMAGE INPUT SCHED`
 abbrev pub recorded_usage : List ℕ → List (List ℕ) → List ℕ
 recorded_usage verb words = then_end verb words (recorded_words verb words)
@@ -126,6 +130,6 @@ usage_sentence (verb ∷ words) =
     if bytes_eq verb (codes "replay") then replay_usage words else
     if bytes_eq verb (codes "debug") then debug_usage words else
     if bytes_eq verb (codes "back") then back_usage words else
-    if bytes_eq verb (codes "race") then recorded_usage (codes "race") words else
+    if bytes_eq verb (codes "race") then race_usage words else
     if bytes_eq verb (codes "prof") then recorded_usage (codes "prof") words else
     program_usage verb words

@@ -59,6 +59,13 @@ pub struct Hunt<'a> {
     pub options: HuntOptions,
 }
 
+/// The options of a race report.
+#[derive(Clone, Copy)]
+pub struct RaceOptions {
+    /// Whether plain stores to the words that l.lwa and l.swa access release them.
+    pub locks: bool,
+}
+
 /// `IMAGE INPUT SCHED`: the files of a recorded run.
 #[derive(Clone, Copy)]
 pub struct Recorded<'a> {
@@ -116,6 +123,7 @@ pub enum Command<'a> {
     },
     Race {
         files: Recorded<'a>,
+        options: RaceOptions,
     },
     Prof {
         files: Recorded<'a>,

@@ -2,9 +2,9 @@
 ghost use Rattle.std.specs.Prelude.{◌≡◌, None, Some, MatchOption, IfSome, IsTrue};
 ghost use Rattle.or_words.specs.Settings.{Fits};
 ghost use Rattle.or_command_line.specs.Words.{texts};
-ghost use Rattle.or_command_line.specs.Settings.{option_of, flag_of, latch_of, config_of, config_fits, stay_of, stay_fits, FitsStay, run_options_of, hunt_options_of, hunt_fits, FitsHunt, stay_alone_of, every_of, every_fits, FitsEvery, symbols_alone_of};
+ghost use Rattle.or_command_line.specs.Settings.{option_of, flag_of, latch_of, config_of, config_fits, stay_of, stay_fits, FitsStay, run_options_of, hunt_options_of, hunt_fits, FitsHunt, stay_alone_of, every_of, every_fits, FitsEvery, symbols_alone_of, race_options_of};
 
-use crate::{HuntOptions, RunOptions};
+use crate::{HuntOptions, RaceOptions, RunOptions};
 use or_text::numerals::read_decimal;
 use or_words::Config;
 use or_words::limits::{MOST_BUDGET, MOST_CORES, MOST_RAM, MOST_STAY};
@@ -211,6 +211,19 @@ pub(crate) fn symbols_alone(words: &[String]) -> Option<bool>
 {
     let (symbols, rest) = flag("--symbols", words);
     if rest.is_empty() { Some(symbols) } else { None }
+}
+
+/// The options of a race report.
+#[tactic(auto, unfolding(crate::specs::Settings::race_options_of))]
+pub(crate) fn race_options(words: &[String]) -> Option<RaceOptions>
+    ensures value { result ≡ race_options_of (texts words.now) }
+{
+    let (locks, rest) = flag("--locks", words);
+    if rest.is_empty() {
+        Some(RaceOptions { locks })
+    } else {
+        None
+    }
 }
 
 // Turns between two checkpoints: 1 to 2^29.

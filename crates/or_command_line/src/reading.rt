@@ -94,6 +94,7 @@ fn is_option(verb: &str, word: &str) -> bool
         }
         "back" => word == "--every",
         "bench" => word == "--stay",
+        "race" => word == "--locks",
         _ => false,
     }
 }

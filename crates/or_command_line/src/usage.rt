@@ -3,7 +3,7 @@ ghost use Rattle.std.specs.Prelude.{◌≡◌, ◌≤◌, length, codes};
 ghost use Rattle.or_text.specs.Sentences.{sentence_text};
 ghost use Rattle.or_command_line.specs.Words.{texts};
 ghost use Rattle.or_command_line.specs.Reading.{shown, SoFar};
-ghost use Rattle.or_command_line.specs.Usage.{start, image_apart, with_image, recorded_words, report_apart, with_report, schedule_apart, with_schedule, run_words, run_usage, replay_usage, session_words, debug_usage, back_usage, recorded_usage, asm_usage, dis_usage, workload_words, gen_usage, bench_usage, program_usage, usage_sentence};
+ghost use Rattle.or_command_line.specs.Usage.{start, image_apart, with_image, recorded_words, report_apart, with_report, schedule_apart, with_schedule, run_words, run_usage, replay_usage, session_words, debug_usage, back_usage, race_usage, recorded_usage, asm_usage, dis_usage, workload_words, gen_usage, bench_usage, program_usage, usage_sentence};
 
 use crate::reading::{
     Reading, SoFar, Value, then_apart, then_end, then_file, then_flag, then_input, then_number,
@@ -137,6 +137,16 @@ fn back_usage(words: &[String]) -> Sentence<'_>
     then_end("back", words, so_far)
 }
 
+fn race_usage(words: &[String]) -> Sentence<'_>
+    ensures { sentence_text result ≡ race_usage (texts words.now) }
+{
+    then_end(
+        "race",
+        words,
+        then_flag("--locks", recorded_words("race", words)),
+    )
+}
+
 fn recorded_usage<'a>(verb: &'a str, words: &'a [String]) -> Sentence<'a>
     ensures { sentence_text result ≡ recorded_usage verb.now (texts words.now) }
 {
@@ -233,7 +243,7 @@ pub fn explain(words: &[String]) -> Sentence<'_>
         "replay" => replay_usage(rest),
         "debug" => then_end("debug", rest, session_words("debug", rest)),
         "back" => back_usage(rest),
-        "race" => recorded_usage("race", rest),
+        "race" => race_usage(rest),
         "prof" => recorded_usage("prof", rest),
         verb => program_usage(verb, rest),
     }

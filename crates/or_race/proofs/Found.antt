@@ -1,92 +1,109 @@
 -- What one more event does to what is kept of a word.
-use Rattle.std.proofs.Common.{◌≡◌, ◌≢◌, ℕ, ◌<◌, ◌≤◌, ◌⊎◌, List, [], ◌∷◌, ◌++◌, length, slice_get, slice_index, Option, Some, None, IsTrue, refl, sym, ap, ◌∙◌, subst, ⊎_elim, inl, inr, arith}
+use Rattle.std.proofs.Common.{◌≡◌, ◌≢◌, ℕ, ◌<◌, ◌≤◌, ◌⊎◌, List, [], ◌∷◌, ◌++◌, length, slice_get, slice_index, Option, Some, None, Bool, true, false, IsTrue, refl, sym, ap, ◌∙◌, subst, ⊎_elim, inl, inr, arith}
 use Rattle.or_bus.specs.declared.access.AccessKind.{AccessKind}
 use Rattle.or_bus.specs.declared.access.AccessKind.TheVariants.{Load, Store, Linked, Conditional}
 use Rattle.or_race.specs.declared.line.Line.{Line}
 use Rattle.or_race.specs.declared.word.Word.{Word}
-use Rattle.or_race.specs.Event.{Event, Before}
+use Rattle.or_race.specs.Event.{Event, is_release, Before}
 use Rattle.or_race.specs.Records.{IsSchedule}
-use Rattle.or_race.specs.Race.{kinds_conflict, Race, IsReported}
-use Rattle.or_race.specs.Kept.{Reaches, Covers, Releases, Witness, IsLatest, IsOf, lasts_of, conflicting_of, FoundOk, WordOk, NoRace, IsLatestRace, NextWord}
+use Rattle.or_race.specs.Race.{is_plain, kinds_conflict, Race, IsFirst}
+use Rattle.or_race.specs.Kept.{Reaches, Covers, Releases, Witness, IsLatest, IsOf, lasts_of, conflicting_of, FoundOk, SynchronizesOk, WordOk, NoRace, IsLatestRace, NextWord}
 use Rattle.or_race.proofs.Places.{within, at_old, at_new, at_which, at_below, same_at}
 use Rattle.or_race.proofs.Order.{still, already}
 use Rattle.or_race.proofs.Clocks.{Past, AllBelow, le_or_lt, same_or_not, clock_stays, released_clock}
 use Rattle.or_race.proofs.Latest.{Conflicting, latest_new, latest_stays, last_conflicting}
 
--- a race stays one
-race_still : (es : List Event) (e : Event) {word i j : ℕ} → Race es word i j → Race (es ++ e ∷ []) word i j
-race_still es e {i = i} {j = j} r = record {
-  first = r.first;
-  second = r.second;
-  at_first = at_old es e i r.first r.at_first;
-  at_second = at_old es e j r.second r.at_second;
-  later = r.later;
-  word_is = r.word_is;
-  conflict = r.conflict;
-  unordered = λ b. r.unordered (already es e b (within es j r.second r.at_second));
-}
+true_or_false : (b : Bool) → IsTrue b ⊎ (b ≡ false)
+true_or_false true = inl refl
+true_or_false false = inr refl
 
--- a race of old events was one
-race_back : (es : List Event) (e : Event) {word i j : ℕ} → Race (es ++ e ∷ []) word i j → j < length es → Race es word i j
-race_back es e {i = i} {j = j} r h = record {
-  first = r.first;
-  second = r.second;
-  at_first = at_below es e i r.first (let l = r.later in omega arith) r.at_first;
-  at_second = at_below es e j r.second h r.at_second;
-  later = r.later;
-  word_is = r.word_is;
-  conflict = r.conflict;
-  unordered = λ b. r.unordered (still es e b);
-}
+kept_apart : {b : Bool} → b ≡ false → IsTrue b → ⊥
+kept_apart e h = cc
 
--- or its second event is the new one
-race_place : (es : List Event) (e : Event) {word i j : ℕ} → Race (es ++ e ∷ []) word i j → (j < length es) ⊎ ((j ≡ length es) × (r : Race (es ++ e ∷ []) word i (length es)) × (r.second ≡ e))
-race_place es e {word = word} {i = i} {j = j} r = ⊎_elim
-    (λ (t : slice_get es j ≡ Some r.second). inl (within es j r.second t))
-    (λ (t : (j ≡ length es) × (r.second ≡ e)). let m = moved j r t.0 in inr (t.0, m.0, m.1))
-    (at_which es e j r.second r.at_second)
-  where
-    moved : (k : ℕ) → Race (es ++ e ∷ []) word i k → k ≡ length es → (r : Race (es ++ e ∷ []) word i (length es)) × (r.second ≡ e)
-    moved k r q = let s = subst (Race (es ++ e ∷ []) word i) q r in (s, same_at (es ++ e ∷ []) (length es) s.second e s.at_second (at_new es e))
+-- a synchronization word stays one, and another word too unless the new event makes it one
+synchronizes_stays : (es : List Event) (e : Event) (word : ℕ) (b : Bool) → (e.word ≡ word → is_plain e.kind ≡ false → ⊥) → SynchronizesOk es word b → SynchronizesOk (es ++ e ∷ []) word b
+synchronizes_stays es e word true other s = record { i = s.i; e = s.e; at = at_old es e s.i s.e s.at; word_is = s.word_is; kind = s.kind }
+synchronizes_stays es e word false other s = λ w. ⊎_elim
+    (λ (t : slice_get es w.i ≡ Some w.e). s (record { i = w.i; e = w.e; at = t; word_is = w.word_is; kind = w.kind }))
+    (λ (t : (w.i ≡ length es) × (w.e ≡ e)). other (subst (λ (x : Event). x.word ≡ word) t.1 w.word_is) (subst (λ (x : Event). is_plain x.kind ≡ false) t.1 w.kind))
+    (at_which es e w.i w.e w.at)
 
-reported_still : (es : List Event) (e : Event) (line : Line) → IsReported es line → IsReported (es ++ e ∷ []) line
-unfolding race_still
-reported_still es e line p = record {
-  i = p.i;
-  j = p.j;
-  race = race_still es e p.race;
-  least = λ a b r. ⊎_elim
-      (λ (t : b < length es). p.least a b (race_back es e r t))
-      (λ (t : (b ≡ length es) × (r : Race (es ++ e ∷ []) line.word a (length es)) × (r.second ≡ e)). let w = within es p.j p.race.second p.race.at_second in let z = t.0 in omega arith)
-      (race_place es e r);
-  greatest = λ a r. p.greatest a (race_back es e r (within es p.j p.race.second p.race.at_second));
-  first_turn = p.first_turn;
-  first_core = p.first_core;
-  second_turn = p.second_turn;
-  second_core = p.second_core;
-}
+module _ {locks : Bool} where
+  -- a race stays one
+  race_still : (es : List Event) (e : Event) {word i j : ℕ} → Race locks es word i j → Race locks (es ++ e ∷ []) word i j
+  race_still es e {i = i} {j = j} r = record {
+    first = r.first;
+    second = r.second;
+    at_first = at_old es e i r.first r.at_first;
+    at_second = at_old es e j r.second r.at_second;
+    later = r.later;
+    word_is = r.word_is;
+    conflict = r.conflict;
+    unordered = λ b. r.unordered (already es e b (within es j r.second r.at_second));
+  }
 
--- an event on another word
-pub word_stays : (es : List Event) (e : Event) (last word : ℕ) (s : Word) → last < e.turn → word ≢ e.word → WordOk es last word s → WordOk (es ++ e ∷ []) e.turn word s
-word_stays es e last word s later other ok = record {
-  released = clock_stays es e last s.released (Releases word) later (λ h. other (sym h.same)) ok.released;
-  lasts = λ core kind. latest_stays es e (IsOf word core kind) (slice_index (lasts_of kind s) core) (λ h. other (sym h.same_word)) (ok.lasts core kind);
-  found = found_stays s.found ok.found;
-}
-  where
-    found_stays : (found : Option Line) → FoundOk es word found → FoundOk (es ++ e ∷ []) word found
-    found_stays None h = λ i j r. ⊎_elim
-        (λ (t : j < length es). h i j (race_back es e r t))
-        (λ (t : (j ≡ length es) × (r : Race (es ++ e ∷ []) word i (length es)) × (r.second ≡ e)). other (sym t.1.word_is ∙ ap (λ (x : Event). x.word) t.2))
-        (race_place es e r)
-    found_stays (Some line) h = (h.0, reported_still es e line h.1)
+  -- a race of old events was one
+  race_back : (es : List Event) (e : Event) {word i j : ℕ} → Race locks (es ++ e ∷ []) word i j → j < length es → Race locks es word i j
+  race_back es e {i = i} {j = j} r h = record {
+    first = r.first;
+    second = r.second;
+    at_first = at_below es e i r.first (let l = r.later in omega arith) r.at_first;
+    at_second = at_below es e j r.second h r.at_second;
+    later = r.later;
+    word_is = r.word_is;
+    conflict = r.conflict;
+    unordered = λ b. r.unordered (still es e b);
+  }
+
+  -- or its second event is the new one
+  race_place : (es : List Event) (e : Event) {word i j : ℕ} → Race locks (es ++ e ∷ []) word i j → (j < length es) ⊎ ((j ≡ length es) × (r : Race locks (es ++ e ∷ []) word i (length es)) × (r.second ≡ e))
+  race_place es e {word = word} {i = i} {j = j} r = ⊎_elim
+      (λ (t : slice_get es j ≡ Some r.second). inl (within es j r.second t))
+      (λ (t : (j ≡ length es) × (r.second ≡ e)). let m = moved j r t.0 in inr (t.0, m.0, m.1))
+      (at_which es e j r.second r.at_second)
+    where
+      moved : (k : ℕ) → Race locks (es ++ e ∷ []) word i k → k ≡ length es → (r : Race locks (es ++ e ∷ []) word i (length es)) × (r.second ≡ e)
+      moved k r q = let s = subst (Race locks (es ++ e ∷ []) word i) q r in (s, same_at (es ++ e ∷ []) (length es) s.second e s.at_second (at_new es e))
+
+  reported_still : (es : List Event) (e : Event) (line : Line) → IsFirst locks es line → IsFirst locks (es ++ e ∷ []) line
+  unfolding race_still
+  reported_still es e line p = record {
+    i = p.i;
+    j = p.j;
+    race = race_still es e p.race;
+    least = λ a b r. ⊎_elim
+        (λ (t : b < length es). p.least a b (race_back es e r t))
+        (λ (t : (b ≡ length es) × (r : Race locks (es ++ e ∷ []) line.word a (length es)) × (r.second ≡ e)). let w = within es p.j p.race.second p.race.at_second in let z = t.0 in omega arith)
+        (race_place es e r);
+    greatest = λ a r. p.greatest a (race_back es e r (within es p.j p.race.second p.race.at_second));
+    first_turn = p.first_turn;
+    first_core = p.first_core;
+    second_turn = p.second_turn;
+    second_core = p.second_core;
+  }
+
+  -- an event on another word
+  pub word_stays : (es : List Event) (e : Event) (last word : ℕ) (s : Word) → last < e.turn → word ≢ e.word → WordOk locks es last word s → WordOk locks (es ++ e ∷ []) e.turn word s
+  word_stays es e last word s later other ok = record {
+    released = clock_stays es e last s.released (Releases locks word) later (λ h. other (sym h.same)) ok.released;
+    lasts = λ core kind. latest_stays es e (IsOf word core kind) (slice_index (lasts_of kind s) core) (λ h. other (sym h.same_word)) (ok.lasts core kind);
+    found = found_stays s.found ok.found;
+    synchronizes = synchronizes_stays es e word s.synchronizes (λ same k. other (sym same)) ok.synchronizes;
+  }
+    where
+      found_stays : (found : Option Line) → FoundOk locks es word found → FoundOk locks (es ++ e ∷ []) word found
+      found_stays None h = λ i j r. ⊎_elim
+          (λ (t : j < length es). h i j (race_back es e r t))
+          (λ (t : (j ≡ length es) × (r : Race locks (es ++ e ∷ []) word i (length es)) × (r.second ≡ e)). other (sym t.1.word_is ∙ ap (λ (x : Event). x.word) t.2))
+          (race_place es e r)
+      found_stays (Some line) h = (h.0, reported_still es e line h.1)
 
 -- ---- an event on the word
-module _ (es : List Event) (e : Event) (last cores : ℕ) (clock : List ℕ) (s : Word)
+module _ {locks : Bool} (es : List Event) (e : Event) (last cores : ℕ) (clock : List ℕ) (s : Word)
     (schedule : IsSchedule cores es) (below : AllBelow es e.turn) (later : last < e.turn)
-    (covers : Covers (es ++ e ∷ []) e.turn clock (Past es e)) (ok : WordOk es last e.word s) where
+    (covers : Covers (es ++ e ∷ []) e.turn clock (Past locks es e)) (ok : WordOk locks es last e.word s) where
   -- an old event that the new one races with is a conflicting that the clock does not cover
-  conflicting : (i : ℕ) (r : Race (es ++ e ∷ []) e.word i (length es)) → r.second ≡ e → (slice_get es i ≡ Some r.first) × (r.first.core < cores) × (r.first.core ≢ e.core) × (slice_index clock r.first.core < r.first.turn) × (r.first.turn ≤ conflicting_of e.kind s r.first.core)
+  conflicting : (i : ℕ) (r : Race locks (es ++ e ∷ []) e.word i (length es)) → r.second ≡ e → (slice_get es i ≡ Some r.first) × (r.first.core < cores) × (r.first.core ≢ e.core) × (slice_index clock r.first.core < r.first.turn) × (r.first.turn ≤ conflicting_of e.kind s r.first.core)
   conflicting i r q =
       let old : slice_get es i ≡ Some r.first = at_below es e i r.first r.later r.at_first in (
         old,
@@ -95,7 +112,7 @@ module _ (es : List Event) (e : Event) (last cores : ℕ) (clock : List ℕ) (s 
         ⊎_elim
             (λ (t : r.first.turn ≤ slice_index clock r.first.core). absurd (⊎_elim
             (λ (z : i ≡ length es). let l = r.later in omega arith)
-            (λ (z : Before (es ++ e ∷ []) i (length es)). r.unordered z)
+            (λ (z : Before locks (es ++ e ∷ []) i (length es)). r.unordered z)
             (covers.told i r.first r.at_first t)))
             (λ (t : slice_index clock r.first.core < r.first.turn). t)
             (le_or_lt r.first.turn (slice_index clock r.first.core)),
@@ -107,11 +124,11 @@ module _ (es : List Event) (e : Event) (last cores : ℕ) (clock : List ℕ) (s 
       )
 
   -- where there is none, the new event races with none
-  none_new : NoRace cores clock s e → (i : ℕ) (r : Race (es ++ e ∷ []) e.word i (length es)) → r.second ≡ e → ⊥
+  none_new : NoRace cores clock s e → (i : ℕ) (r : Race locks (es ++ e ∷ []) e.word i (length es)) → r.second ≡ e → ⊥
   none_new free i r q = let x = conflicting i r q in let le = free r.first.core x.1 x.2 in let a = x.3 in let b = x.4 in omega arith
 
   -- the best conflicting races with the new event, and is the greatest that does
-  best_new : (line : Line) → IsLatestRace cores clock s e line → (i : ℕ) × (r : Race (es ++ e ∷ []) e.word i (length es)) × (r.second ≡ e) × (r.first.turn ≡ line.first_turn) × (r.first.core ≡ line.first_core) × ((a : ℕ) → Race (es ++ e ∷ []) e.word a (length es) → a ≤ i)
+  best_new : (line : Line) → IsLatestRace cores clock s e line → (i : ℕ) × (r : Race locks (es ++ e ∷ []) e.word i (length es)) × (r.second ≡ e) × (r.first.turn ≡ line.first_turn) × (r.first.core ≡ line.first_core) × ((a : ℕ) → Race locks (es ++ e ∷ []) e.word a (length es) → a ≤ i)
   best_new line best =
       let ahead = best.ahead in let turn_is = best.turn in
       let w : Witness es (Conflicting e.word line.first_core e.kind) (conflicting_of e.kind s line.first_core) = (last_conflicting es e.word line.first_core e.kind s (λ k. ok.lasts line.first_core k)).some (omega arith) in
@@ -134,44 +151,44 @@ module _ (es : List Event) (e : Event) (last cores : ℕ) (clock : List ℕ) (s 
         λ a r. greatest w.i w.e w.at turn a r (same_at (es ++ e ∷ []) (length es) r.second e r.at_second (at_new es e)),
       )
     where
-      greatest : (i : ℕ) (f : Event) → slice_get es i ≡ Some f → f.turn ≡ line.first_turn → (a : ℕ) (r : Race (es ++ e ∷ []) e.word a (length es)) → r.second ≡ e → a ≤ i
+      greatest : (i : ℕ) (f : Event) → slice_get es i ≡ Some f → f.turn ≡ line.first_turn → (a : ℕ) (r : Race locks (es ++ e ∷ []) e.word a (length es)) → r.second ≡ e → a ≤ i
       greatest i f at turn a r q =
           let x = conflicting a r q in let old = x.0 in let up = x.3 in let le = x.4 in
           let most = best.most r.first.core x.1 x.2 (omega arith) in
           ⊎_elim (λ (t : a ≤ i). t) (λ (t : i < a). let z = schedule.rising i a f r.first at old t in absurd (omega arith)) (le_or_lt a i)
 
-  found_next : (old new : Option Line) → FoundOk es e.word old → ((line : Line) → old ≡ Some line → new ≡ Some line) → (old ≡ None → new ≡ None → NoRace cores clock s e) → ((line : Line) → old ≡ None → new ≡ Some line → IsLatestRace cores clock s e line) → FoundOk (es ++ e ∷ []) e.word new
-  found_next (Some line) new h kept none some = subst (FoundOk (es ++ e ∷ []) e.word) (sym (kept line refl)) (h.0, reported_still es e line h.1)
+  found_next : (old new : Option Line) → FoundOk locks es e.word old → ((line : Line) → old ≡ Some line → new ≡ Some line) → (old ≡ None → new ≡ None → NoRace cores clock s e) → ((line : Line) → old ≡ None → new ≡ Some line → IsLatestRace cores clock s e line) → FoundOk locks (es ++ e ∷ []) e.word new
+  found_next (Some line) new h kept none some = subst (FoundOk locks (es ++ e ∷ []) e.word) (sym (kept line refl)) (h.0, reported_still es e line h.1)
   found_next None None h kept none some = λ i j r. ⊎_elim
       (λ (t : j < length es). h i j (race_back es e r t))
-      (λ (t : (j ≡ length es) × (r : Race (es ++ e ∷ []) e.word i (length es)) × (r.second ≡ e)). none_new (none refl refl) i t.1 t.2)
+      (λ (t : (j ≡ length es) × (r : Race locks (es ++ e ∷ []) e.word i (length es)) × (r.second ≡ e)). none_new (none refl refl) i t.1 t.2)
       (race_place es e r)
   found_next None (Some line) h kept none some =
       let best = some line refl refl in let b = best_new line best in
       (best.word, report line best b.0 b.1 b.2 b.3 b.4 b.5)
     where
-      report : (line : Line) → IsLatestRace cores clock s e line → (i : ℕ) (r : Race (es ++ e ∷ []) e.word i (length es)) → r.second ≡ e → r.first.turn ≡ line.first_turn → r.first.core ≡ line.first_core → ((a : ℕ) → Race (es ++ e ∷ []) e.word a (length es) → a ≤ i) → IsReported (es ++ e ∷ []) line
-      report line best i r q turn core greatest = let r' = subst (λ (x : ℕ). (q : Race (es ++ e ∷ []) x i (length es)) × (q.second ≡ e) × (q.first.turn ≡ line.first_turn) × (q.first.core ≡ line.first_core)) (sym best.word) (r, q, turn, core) in record {
+      report : (line : Line) → IsLatestRace cores clock s e line → (i : ℕ) (r : Race locks (es ++ e ∷ []) e.word i (length es)) → r.second ≡ e → r.first.turn ≡ line.first_turn → r.first.core ≡ line.first_core → ((a : ℕ) → Race locks (es ++ e ∷ []) e.word a (length es) → a ≤ i) → IsFirst locks (es ++ e ∷ []) line
+      report line best i r q turn core greatest = let r' = subst (λ (x : ℕ). (q : Race locks (es ++ e ∷ []) x i (length es)) × (q.second ≡ e) × (q.first.turn ≡ line.first_turn) × (q.first.core ≡ line.first_core)) (sym best.word) (r, q, turn, core) in record {
         i = i;
         j = length es;
         race = r'.0;
         least = λ a b x. ⊎_elim
-            (λ (t : b < length es). absurd (h a b (subst (λ (y : ℕ). Race es y a b) best.word (race_back es e x t))))
-            (λ (t : (b ≡ length es) × (y : Race (es ++ e ∷ []) line.word a (length es)) × (y.second ≡ e)). let z = t.0 in omega arith)
+            (λ (t : b < length es). absurd (h a b (subst (λ (y : ℕ). Race locks es y a b) best.word (race_back es e x t))))
+            (λ (t : (b ≡ length es) × (y : Race locks (es ++ e ∷ []) line.word a (length es)) × (y.second ≡ e)). let z = t.0 in omega arith)
             (race_place es e x);
-        greatest = λ a x. greatest a (subst (λ (y : ℕ). Race (es ++ e ∷ []) y a (length es)) best.word x);
+        greatest = λ a x. greatest a (subst (λ (y : ℕ). Race locks (es ++ e ∷ []) y a (length es)) best.word x);
         first_turn = sym r'.2;
         first_core = sym r'.3;
         second_turn = best.second_turn ∙ ap (λ (x : Event). x.turn) (sym r'.1);
         second_core = best.second_core ∙ ap (λ (x : Event). x.core) (sym r'.1);
       }
 
-  pub word_next : (new : Word) → NextWord cores e clock s new → WordOk (es ++ e ∷ []) e.turn e.word new
+  pub word_next : (new : Word) → NextWord locks cores e clock s new → WordOk locks (es ++ e ∷ []) e.turn e.word new
   word_next new n = record {
     released = ⊎_elim
-        (λ (is : e.kind ≡ Conditional). released_clock es e last s.released clock new.released later is ok.released covers (λ core. n.release_joined core is))
-        (λ (other : e.kind ≢ Conditional). subst (λ (x : List ℕ). Covers (es ++ e ∷ []) e.turn x (Reaches (es ++ e ∷ []) (Releases e.word))) (sym (n.release_kept other)) (clock_stays es e last s.released (Releases e.word) later (λ h. other h.kind) ok.released))
-        (conditional_or_not e.kind);
+        (λ (is : IsTrue (is_release locks e.kind)). released_clock es e last s.released clock new.released later is ok.released covers (λ core. n.release_joined core is))
+        (λ (other : is_release locks e.kind ≡ false). subst (λ (x : List ℕ). Covers (es ++ e ∷ []) e.turn x (Reaches locks (es ++ e ∷ []) (Releases locks e.word))) (sym (n.release_kept other)) (clock_stays es e last s.released (Releases locks e.word) later (λ h. kept_apart other h.kind) ok.released))
+        (true_or_false (is_release locks e.kind));
     lasts = λ core kind. ⊎_elim
         (λ (is : kind ≡ e.kind). ⊎_elim
         (λ (same : core ≡ e.core). subst (IsLatest (es ++ e ∷ []) (IsOf e.word core kind)) (sym (ap (λ (k : AccessKind). slice_index (lasts_of k new) core) is ∙ ap (slice_index (lasts_of e.kind new)) same ∙ n.last_is)) (latest_new es e (IsOf e.word core kind) below (record { same_word = refl; same_core = sym same; same_kind = sym is })))
@@ -180,14 +197,12 @@ module _ (es : List Event) (e : Event) (last cores : ℕ) (clock : List ℕ) (s 
         (λ (apart : kind ≢ e.kind). subst (IsLatest (es ++ e ∷ []) (IsOf e.word core kind)) (sym (ap (λ (xs : List ℕ). slice_index xs core) (n.kinds_kept kind apart))) (latest_stays es e (IsOf e.word core kind) (slice_index (lasts_of kind s) core) (λ h. apart (sym h.same_kind)) (ok.lasts core kind)))
         (kinds_same kind e.kind);
     found = found_next s.found new.found ok.found n.found_kept n.found_none n.found_some;
+    synchronizes = ⊎_elim
+        (λ (plain : IsTrue (is_plain e.kind)). subst (SynchronizesOk (es ++ e ∷ []) e.word) (sym (n.plain plain)) (synchronizes_stays es e e.word s.synchronizes (λ _ k. kept_apart k plain) ok.synchronizes))
+        (λ (other : is_plain e.kind ≡ false). subst (SynchronizesOk (es ++ e ∷ []) e.word) (sym (n.synchronizes other)) (record { i = length es; e = e; at = at_new es e; word_is = refl; kind = other }))
+        (true_or_false (is_plain e.kind));
   }
     where
-      conditional_or_not : (k : AccessKind) → (k ≡ Conditional) ⊎ (k ≢ Conditional)
-      conditional_or_not Load = inr (λ z. cc)
-      conditional_or_not Store = inr (λ z. cc)
-      conditional_or_not Linked = inr (λ z. cc)
-      conditional_or_not Conditional = inl refl
-
       kinds_same : (j k : AccessKind) → (j ≡ k) ⊎ (j ≢ k)
       kinds_same Load Load = inl refl
       kinds_same Store Store = inl refl

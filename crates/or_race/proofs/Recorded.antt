@@ -1,5 +1,5 @@
 -- One more event, as what is kept takes it.
-use Rattle.std.proofs.Common.{◌≡◌, ◌≢◌, ℕ, ◌<◌, List, [], ◌∷◌, ◌++◌, length, slice_get, slice_index_or, slice_set, Some, false, nat_cmp, is_eq, Ordering, Less, Equal, Greater, length-set, get_or-set_same, get_or-set_other, refl, sym, ◌∙◌, subst, ⊎_elim, arith}
+use Rattle.std.proofs.Common.{◌≡◌, ◌≢◌, ℕ, ◌<◌, List, [], ◌∷◌, ◌++◌, length, slice_get, slice_index_or, slice_set, Some, Bool, false, nat_cmp, is_eq, Ordering, Less, Equal, Greater, length-set, get_or-set_same, get_or-set_other, refl, sym, ◌∙◌, subst, ⊎_elim, arith}
 use Rattle.std.specs.BTreeMap.{is_at}
 use Rattle.std.proofs.lemmas.Map.Lookups.{exact_unsigned}
 use Rattle.or_race.specs.declared.races.Races.{Races}
@@ -29,24 +29,25 @@ schedule_next cores es e s below first core = record {
       (at_which es e i f at);
 }
 
-pub added : (old new : Races) (e : Event) (es : List Event) (clock : List ℕ) (word : Word) → e.core < old.cores → old.last < e.turn
-    → NextClock e (clock_of old e.core) (kept_of old e.word).released clock → NextWord old.cores e clock (kept_of old e.word) word
-    → new.cores ≡ old.cores → new.last ≡ e.turn → clock_of new e.core ≡ clock → ((core : ℕ) → core ≢ e.core → clock_of new core ≡ clock_of old core)
+pub added : (locks : Bool) (old new : Races) (e : Event) (es : List Event) (clock : List ℕ) (word : Word) → e.core < old.cores → old.last < e.turn
+    → NextClock e (clock_of old e.core) (kept_of old e.word).released clock → NextWord old.locks old.cores e clock (kept_of old e.word) word
+    → new.locks ≡ old.locks → new.cores ≡ old.cores → new.last ≡ e.turn → clock_of new e.core ≡ clock → ((core : ℕ) → core ≢ e.core → clock_of new core ≡ clock_of old core)
     → kept_of new e.word ≡ word → ((w : ℕ) → w ≢ e.word → kept_of new w ≡ kept_of old w)
-    → Records old es → Records new (es ++ e ∷ [])
-added old new e es clock word in_cores later next_clock next_word cores last own others here apart r =
+    → Records locks old es → Records locks new (es ++ e ∷ [])
+added locks old new e es clock word in_cores later next_clock next_word same cores last own others here apart r =
     let below : AllBelow es e.turn = λ i f at. (let m = r.last.most i f at tt in omega arith) in
     let covers = own_clock es e old.last (clock_of old e.core) (kept_of old e.word).released clock later below (r.clocks e.core in_cores) (r.words e.word).released next_clock in
     record {
+      locks_are = same ∙ r.locks_are;
       schedule = subst (λ (n : ℕ). IsSchedule n (es ++ e ∷ [])) (sym cores) (schedule_next old.cores es e r.schedule below (omega arith) in_cores);
       last = subst (IsLatest (es ++ e ∷ []) (λ _. Unit {0})) (sym last) (latest_new es e (λ _. Unit {0}) below tt);
-      clocks = λ core h. subst (λ (n : ℕ). Covers (es ++ e ∷ []) n (clock_of new core) (Reaches (es ++ e ∷ []) (OfCore core))) (sym last) (⊎_elim
-          (λ (t : core ≡ e.core). subst (λ (c : ℕ). Covers (es ++ e ∷ []) e.turn (clock_of new c) (Reaches (es ++ e ∷ []) (OfCore c))) (sym t) (subst (λ (x : List ℕ). Covers (es ++ e ∷ []) e.turn x (Reaches (es ++ e ∷ []) (OfCore e.core))) (sym own) (as_reached es e e.turn clock covers)))
-          (λ (t : core ≢ e.core). subst (λ (x : List ℕ). Covers (es ++ e ∷ []) e.turn x (Reaches (es ++ e ∷ []) (OfCore core))) (sym (others core t)) (clock_stays es e old.last (clock_of old core) (OfCore core) later (λ z. t (sym z)) (r.clocks core (omega arith))))
+      clocks = λ core h. subst (λ (n : ℕ). Covers (es ++ e ∷ []) n (clock_of new core) (Reaches locks (es ++ e ∷ []) (OfCore core))) (sym last) (⊎_elim
+          (λ (t : core ≡ e.core). subst (λ (c : ℕ). Covers (es ++ e ∷ []) e.turn (clock_of new c) (Reaches locks (es ++ e ∷ []) (OfCore c))) (sym t) (subst (λ (x : List ℕ). Covers (es ++ e ∷ []) e.turn x (Reaches locks (es ++ e ∷ []) (OfCore e.core))) (sym own) (as_reached es e e.turn clock covers)))
+          (λ (t : core ≢ e.core). subst (λ (x : List ℕ). Covers (es ++ e ∷ []) e.turn x (Reaches locks (es ++ e ∷ []) (OfCore core))) (sym (others core t)) (clock_stays es e old.last (clock_of old core) (OfCore core) later (λ z. t (sym z)) (r.clocks core (omega arith))))
           (same_or_not core e.core));
-      words = λ w. subst (λ (n : ℕ). WordOk (es ++ e ∷ []) n w (kept_of new w)) (sym last) (⊎_elim
-          (λ (t : w ≡ e.word). subst (λ (x : ℕ). WordOk (es ++ e ∷ []) e.turn x (kept_of new x)) (sym t) (subst (WordOk (es ++ e ∷ []) e.turn e.word) (sym here) (word_next es e old.last old.cores clock (kept_of old e.word) r.schedule below later covers (r.words e.word) word next_word)))
-          (λ (t : w ≢ e.word). subst (WordOk (es ++ e ∷ []) e.turn w) (sym (apart w t)) (word_stays es e old.last w (kept_of old w) later t (r.words w)))
+      words = λ w. subst (λ (n : ℕ). WordOk locks (es ++ e ∷ []) n w (kept_of new w)) (sym last) (⊎_elim
+          (λ (t : w ≡ e.word). subst (λ (x : ℕ). WordOk locks (es ++ e ∷ []) e.turn x (kept_of new x)) (sym t) (subst (WordOk locks (es ++ e ∷ []) e.turn e.word) (sym here) (word_next es e old.last old.cores clock (kept_of old e.word) r.schedule below later covers (r.words e.word) word (subst (λ (x : Bool). NextWord x old.cores e clock (kept_of old e.word) word) r.locks_are next_word))))
+          (λ (t : w ≢ e.word). subst (WordOk locks (es ++ e ∷ []) e.turn w) (sym (apart w t)) (word_stays es e old.last w (kept_of old w) later t (r.words w)))
           (same_or_not w e.word));
     }
 

@@ -1,7 +1,7 @@
 -- The accesses of a schedule, in the order of its turns, and which of them come before which.
-use Rattle.std.specs.Prelude.{◌≡◌, ℕ, ◌<◌, ◌⊎◌, List, Some, slice_get}
+use Rattle.std.specs.Prelude.{◌≡◌, ℕ, ◌<◌, ◌⊎◌, Bool, true, false, IsTrue, List, Some, slice_get}
 use Rattle.or_bus.specs.declared.access.AccessKind.{AccessKind}
-use Rattle.or_bus.specs.declared.access.AccessKind.TheVariants.{Linked, Conditional}
+use Rattle.or_bus.specs.declared.access.AccessKind.TheVariants.{Load, Store, Linked, Conditional}
 use Rattle.or_bus.specs.declared.access.Access.{Access}
 
 -- an access to RAM and the turn that made it, counted from 1
@@ -15,26 +15,33 @@ pub record Event : Type 0 where
 abbrev pub event : ℕ → Access → Event
 event turn a = record { turn = turn; core = a.core; word = a.word; kind = a.kind }
 
--- a conditional store that stored, and a linked load of the same word
-pub record SynchronizesWith (e f : Event) : Type 0 where
-  pub from : e.kind ≡ Conditional
+-- a conditional store that stored releases its word; with locks, a plain store does too, as it frees a lock
+abbrev pub is_release : Bool → AccessKind → Bool
+is_release locks Load = false
+is_release locks Store = locks
+is_release locks Linked = false
+is_release locks Conditional = true
+
+-- a release of a word, and a linked load that acquires it (so the word is a synchronization word)
+pub record SynchronizesWith (locks : Bool) (e f : Event) : Type 0 where
+  pub from : IsTrue (is_release locks e.kind)
   pub to : f.kind ≡ Linked
   pub word : e.word ≡ f.word
 
 -- what orders an event and a later one at once: one core makes both, or the first synchronizes with the second
-abbrev pub Orders : Event → Event → Type 0
-Orders e f = (e.core ≡ f.core) ⊎ SynchronizesWith e f
+abbrev pub Orders : Bool → Event → Event → Type 0
+Orders locks e f = (e.core ≡ f.core) ⊎ SynchronizesWith locks e f
 
 -- the events at two places, of which the second is the later, are ordered at once
-pub record Direct (es : List Event) (i j : ℕ) : Type 0 where
+pub record Direct (locks : Bool) (es : List Event) (i j : ℕ) : Type 0 where
   pub first : Event
   pub second : Event
   pub at_first : slice_get es i ≡ Some first
   pub at_second : slice_get es j ≡ Some second
   pub later : i < j
-  pub ordered : Orders first second
+  pub ordered : Orders locks first second
 
 -- BEFORE, on places of the list: the least transitive relation that has these
-pub data Before (es : List Event) : ℕ → ℕ → Type 0 where
-  direct : {i j : ℕ} → Direct es i j → Before es i j
-  through : {i j k : ℕ} → Before es i j → Before es j k → Before es i k
+pub data Before (locks : Bool) (es : List Event) : ℕ → ℕ → Type 0 where
+  direct : {i j : ℕ} → Direct locks es i j → Before locks es i j
+  through : {i j k : ℕ} → Before locks es i j → Before locks es j k → Before locks es i k

@@ -1,19 +1,19 @@
 -- What the clocks and the last accesses say of the events so far. The report's definitions do not cite this file.
-use Rattle.std.specs.Prelude.{◌≡◌, ◌≢◌, ℕ, ◌<◌, ◌≤◌, ◌⊎◌, max, List, [], ◌∷◌, Option, Some, None, slice_get, slice_index}
+use Rattle.std.specs.Prelude.{◌≡◌, ◌≢◌, ℕ, ◌<◌, ◌≤◌, ◌⊎◌, max, List, [], ◌∷◌, Bool, true, false, IsTrue, Option, Some, None, slice_get, slice_index}
 use Rattle.or_bus.specs.declared.access.AccessKind.{AccessKind}
 use Rattle.or_bus.specs.declared.access.AccessKind.TheVariants.{Load, Store, Linked, Conditional}
 use Rattle.or_race.specs.declared.line.Line.{Line}
 use Rattle.or_race.specs.declared.word.Word.{Word}
-use Rattle.or_race.specs.Event.{Event, Before}
-use Rattle.or_race.specs.Race.{Race, IsReported}
+use Rattle.or_race.specs.Event.{Event, is_release, Before}
+use Rattle.or_race.specs.Race.{is_plain, Race, IsFirst, IsSynchronizationWord}
 
 -- the event at i is one that P holds of, or before such a one
-pub record Reaches (es : List Event) (P : Event → Type 0) (i : ℕ) : Type 0 where
+pub record Reaches (locks : Bool) (es : List Event) (P : Event → Type 0) (i : ℕ) : Type 0 where
   pub j : ℕ
   pub last : Event
   pub at : slice_get es j ≡ Some last
   pub holds : P last
-  pub way : (i ≡ j) ⊎ Before es i j
+  pub way : (i ≡ j) ⊎ Before locks es i j
 
 -- The clock tells of each event whether K holds of its place, and names no turn past the last.
 pub record Covers (es : List Event) (last : ℕ) (clock : List ℕ) (K : ℕ → Type 0) : Type 0 where
@@ -24,9 +24,9 @@ pub record Covers (es : List Event) (last : ℕ) (clock : List ℕ) (K : ℕ →
 abbrev pub OfCore : ℕ → Event → Type 0
 OfCore core e = e.core ≡ core
 
--- a conditional store to the word
-pub record Releases (word : ℕ) (e : Event) : Type 0 where
-  pub kind : e.kind ≡ Conditional
+-- a release of the word
+pub record Releases (locks : Bool) (word : ℕ) (e : Event) : Type 0 where
+  pub kind : IsTrue (is_release locks e.kind)
   pub same : e.word ≡ word
 
 -- an event that P holds of, in this turn
@@ -62,14 +62,20 @@ conflicting_of Linked s core = slice_index s.stores core
 conflicting_of Conditional s core = max (slice_index s.loads core) (slice_index s.stores core)
 
 -- the line of a word, if it races
-abbrev pub FoundOk : List Event → ℕ → Option Line → Type 0
-FoundOk es word None = (i j : ℕ) → Race es word i j → ⊥
-FoundOk es word (Some line) = (line.word ≡ word) × IsReported es line
+abbrev pub FoundOk : Bool → List Event → ℕ → Option Line → Type 0
+FoundOk locks es word None = (i j : ℕ) → Race locks es word i j → ⊥
+FoundOk locks es word (Some line) = (line.word ≡ word) × IsFirst locks es line
 
-pub record WordOk (es : List Event) (last word : ℕ) (s : Word) : Type 0 where
-  pub released : Covers es last s.released (Reaches es (Releases word))
+-- whether the word is a synchronization word
+abbrev pub SynchronizesOk : List Event → ℕ → Bool → Type 0
+SynchronizesOk es word false = ¬ IsSynchronizationWord es word
+SynchronizesOk es word true = IsSynchronizationWord es word
+
+pub record WordOk (locks : Bool) (es : List Event) (last word : ℕ) (s : Word) : Type 0 where
+  pub released : Covers es last s.released (Reaches locks es (Releases locks word))
   pub lasts : (core : ℕ) (kind : AccessKind) → IsLatest es (IsOf word core kind) (slice_index (lasts_of kind s) core)
-  pub found : FoundOk es word s.found
+  pub found : FoundOk locks es word s.found
+  pub synchronizes : SynchronizesOk es word s.synchronizes
 
 -- no other core's last conflicting access is one that the clock does not cover
 abbrev pub NoRace : ℕ → List ℕ → Word → Event → Type 0
@@ -93,20 +99,22 @@ pub record NextClock (e : Event) (before released clock : List ℕ) : Type 0 whe
   pub kept : (core : ℕ) → core ≢ e.core → e.kind ≢ Linked → slice_index clock core ≡ slice_index before core
 
 -- what is kept of the word after the event, where clock is then the core's own
-pub record NextWord (cores : ℕ) (e : Event) (clock : List ℕ) (s new : Word) : Type 0 where
-  pub release_joined : (core : ℕ) → e.kind ≡ Conditional → slice_index new.released core ≡ max (slice_index s.released core) (slice_index clock core)
-  pub release_kept : e.kind ≢ Conditional → new.released ≡ s.released
+pub record NextWord (locks : Bool) (cores : ℕ) (e : Event) (clock : List ℕ) (s new : Word) : Type 0 where
+  pub release_joined : (core : ℕ) → IsTrue (is_release locks e.kind) → slice_index new.released core ≡ max (slice_index s.released core) (slice_index clock core)
+  pub release_kept : is_release locks e.kind ≡ false → new.released ≡ s.released
   pub last_is : slice_index (lasts_of e.kind new) e.core ≡ e.turn
   pub last_others : (core : ℕ) → core ≢ e.core → slice_index (lasts_of e.kind new) core ≡ slice_index (lasts_of e.kind s) core
   pub kinds_kept : (kind : AccessKind) → kind ≢ e.kind → lasts_of kind new ≡ lasts_of kind s
   pub found_kept : (line : Line) → s.found ≡ Some line → new.found ≡ Some line
   pub found_none : s.found ≡ None → new.found ≡ None → NoRace cores clock s e
   pub found_some : (line : Line) → s.found ≡ None → new.found ≡ Some line → IsLatestRace cores clock s e line
+  pub synchronizes : is_plain e.kind ≡ false → new.synchronizes ≡ true
+  pub plain : IsTrue (is_plain e.kind) → new.synchronizes ≡ s.synchronizes
 
--- what the word's conditional stores release after an access of this kind
-pub record ReleasedAfter (kind : AccessKind) (old clock new : List ℕ) : Type 0 where
-  pub on : (core : ℕ) → kind ≡ Conditional → slice_index new core ≡ max (slice_index old core) (slice_index clock core)
-  pub off : kind ≢ Conditional → new ≡ old
+-- what is released on the word after an access of this kind
+pub record ReleasedAfter (locks : Bool) (kind : AccessKind) (old clock new : List ℕ) : Type 0 where
+  pub on : (core : ℕ) → IsTrue (is_release locks kind) → slice_index new core ≡ max (slice_index old core) (slice_index clock core)
+  pub off : is_release locks kind ≡ false → new ≡ old
 
 -- the cores' last accesses of a kind after the event
 pub record LastsAfter (e : Event) (kind : AccessKind) (old new : List ℕ) : Type 0 where
@@ -119,4 +127,4 @@ abbrev pub no_turns : List ℕ
 no_turns = 0 ∷ 0 ∷ 0 ∷ 0 ∷ 0 ∷ 0 ∷ 0 ∷ 0 ∷ []
 
 abbrev pub blank : Word
-blank = record { released = no_turns; loads = no_turns; stores = no_turns; linked = no_turns; conditionals = no_turns; found = None }
+blank = record { released = no_turns; loads = no_turns; stores = no_turns; linked = no_turns; conditionals = no_turns; synchronizes = false; found = None }

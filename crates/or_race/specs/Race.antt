@@ -33,7 +33,7 @@ pub record Conflict (e f : Event) : Type 0 where
   pub kinds : IsTrue (kinds_conflict e.kind f.kind)
 
 -- A RACE on a word: the events at two places conflict on it, and the first does not come before the second.
-pub record Race (es : List Event) (word i j : ℕ) : Type 0 where
+pub record Race (locks : Bool) (es : List Event) (word i j : ℕ) : Type 0 where
   pub first : Event
   pub second : Event
   pub at_first : slice_get es i ≡ Some first
@@ -41,27 +41,44 @@ pub record Race (es : List Event) (word i j : ℕ) : Type 0 where
   pub later : i < j
   pub word_is : second.word ≡ word
   pub conflict : Conflict first second
-  pub unordered : ¬ Before es i j
+  pub unordered : ¬ Before locks es i j
+
+-- a SYNCHRONIZATION WORD: the schedule has an access to it by l.lwa, or by an l.swa that stored
+pub record IsSynchronizationWord (es : List Event) (word : ℕ) : Type 0 where
+  pub i : ℕ
+  pub e : Event
+  pub at : slice_get es i ≡ Some e
+  pub word_is : e.word ≡ word
+  pub kind : is_plain e.kind ≡ false
+
+-- a word whose races are reported: with locks, one that is no synchronization word
+abbrev pub IsData : Bool → List Event → ℕ → Type 0
+IsData false es word = Unit {0}
+IsData true es word = ¬ IsSynchronizationWord es word
 
 -- the line of a word that races: the least second event of its races, and the greatest first event that races with it
-pub record IsReported (es : List Event) (line : Line) : Type 0 where
+pub record IsFirst (locks : Bool) (es : List Event) (line : Line) : Type 0 where
   pub i : ℕ
   pub j : ℕ
-  pub race : Race es line.word i j
-  pub least : (a b : ℕ) → Race es line.word a b → j ≤ b
-  pub greatest : (a : ℕ) → Race es line.word a j → a ≤ i
+  pub race : Race locks es line.word i j
+  pub least : (a b : ℕ) → Race locks es line.word a b → j ≤ b
+  pub greatest : (a : ℕ) → Race locks es line.word a j → a ≤ i
   pub first_turn : line.first_turn ≡ race.first.turn
   pub first_core : line.first_core ≡ race.first.core
   pub second_turn : line.second_turn ≡ race.second.turn
   pub second_core : line.second_core ≡ race.second.core
+
+-- a line of a report
+abbrev pub IsReported : Bool → List Event → Line → Type 0
+IsReported locks es line = IsFirst locks es line × IsData locks es line.word
 
 -- one of the lines is of this word
 abbrev pub HasLine : ℕ → List Line → Type 0
 HasLine word [] = ⊥
 HasLine word (line ∷ lines) = (line.word ≡ word) ⊎ HasLine word lines
 
--- a line for each word that races, and no others, in increasing order
-pub record IsReport (es : List Event) (lines : List Line) : Type 0 where
+-- a line for each word that races and whose races are reported, and no others, in increasing order
+pub record IsReport (locks : Bool) (es : List Event) (lines : List Line) : Type 0 where
   pub sorted : IsStrictlySortedBy nat_cmp (map (λ line. line.word) lines)
-  pub each : AllByRecursion (IsReported es) lines
-  pub all : (word i j : ℕ) → Race es word i j → HasLine word lines
+  pub each : AllByRecursion (IsReported locks es) lines
+  pub all : (word i j : ℕ) → Race locks es word i j → IsData locks es word → HasLine word lines

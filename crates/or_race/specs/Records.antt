@@ -1,5 +1,5 @@
 -- What events the clocks and the last accesses stand for, and what contracts see of them besides.
-use Rattle.std.specs.Prelude.{◌≡◌, ℕ, ◌<◌, Some, slice_get, List, [], slice_index_or, unwrap_or}
+use Rattle.std.specs.Prelude.{◌≡◌, ℕ, Bool, ◌<◌, Some, slice_get, List, [], slice_index_or, unwrap_or}
 use Rattle.std.specs.Ordering.{nat_cmp}
 use Rattle.std.specs.BTreeMap.{get, ContainsKey}
 use Rattle.or_race.specs.declared.word.Word.{Word}
@@ -32,9 +32,10 @@ pub record IsSchedule (cores : ℕ) (es : List Event) : Type 0 where
   pub rising : (i j : ℕ) (e f : Event) → slice_get es i ≡ Some e → slice_get es j ≡ Some f → i < j → e.turn < f.turn
   pub in_cores : (i : ℕ) (e : Event) → slice_get es i ≡ Some e → e.core < cores
 
--- what is kept is that of these events, which were added in this order
-pub record Records (races : Races) (es : List Event) : Type 0 where
+-- what is kept is that of these events, which were added in this order, with or without locks
+pub record Records (locks : Bool) (races : Races) (es : List Event) : Type 0 where
+  pub locks_are : races.locks ≡ locks
   pub schedule : IsSchedule races.cores es
   pub last : IsLatest es (λ _. Unit {0}) races.last
-  pub clocks : (core : ℕ) → core < races.cores → Covers es races.last (clock_of races core) (Reaches es (OfCore core))
-  pub words : (word : ℕ) → WordOk es races.last word (kept_of races word)
+  pub clocks : (core : ℕ) → core < races.cores → Covers es races.last (clock_of races core) (Reaches locks es (OfCore core))
+  pub words : (word : ℕ) → WordOk locks es races.last word (kept_of races word)

@@ -1,5 +1,5 @@
 -- The text of a report.
-use Rattle.std.specs.Prelude.{ℕ, ◌+◌, ◌%◌, ◌≡◌, List, [], ◌∷◌, ◌++◌, length, codes, decimal}
+use Rattle.std.specs.Prelude.{Bool, true, false, ℕ, ◌+◌, ◌%◌, ◌≡◌, List, [], ◌∷◌, ◌++◌, length, codes, decimal}
 use Rattle.std.specs.List.{flat_map}
 use Rattle.or_text.specs.Hexadecimal.{word_text}
 use Rattle.or_race.specs.declared.line.Line.{Line}
@@ -21,12 +21,17 @@ line_text line = codes "race " ++ word_text line.word ++ access_text line.first_
 unfoldable pub lines_text : List Line → List ℕ
 lines_text lines = flat_map line_text lines
 
--- the lines between the first, which names the format, and the last, which counts them
-abbrev pub report_text : List Line → List ℕ
-report_text lines = codes "orrace 1\n" ++ lines_text lines ++ codes "races " ++ decimal (length lines) ++ codes "\n"
+-- the first line, which names the format
+abbrev pub head_text : Bool → List ℕ
+head_text false = codes "orrace 1\n"
+head_text true = codes "orrace 1 locks\n"
 
--- THE REPORT on a list of events
-pub record RaceText (es : List Event) (text : List ℕ) : Type 0 where
+-- the lines between the first and the last, which counts them
+abbrev pub report_text : Bool → List Line → List ℕ
+report_text locks lines = head_text locks ++ lines_text lines ++ codes "races " ++ decimal (length lines) ++ codes "\n"
+
+-- THE REPORT on a list of events, with or without locks
+pub record RaceText (locks : Bool) (es : List Event) (text : List ℕ) : Type 0 where
   pub lines : List Line
-  pub report : IsReport es lines
-  pub text_is : text ≡ report_text lines
+  pub report : IsReport locks es lines
+  pub text_is : text ≡ report_text locks lines

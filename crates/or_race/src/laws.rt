@@ -5,11 +5,11 @@ ghost use Rattle.or_race.specs.Text.{RaceText};
 
 /// A list of events has one report.
 pub fn one_report()
-    ensures { (events : List Event) (a b : List ℕ) → RaceText events a → RaceText events b → a ≡ b }
+    ensures { (locks : Bool) (events : List Event) (a b : List ℕ) → RaceText locks events a → RaceText locks events b → a ≡ b }
 {}
 
 /// Before is the least: each transitive relation that has what is ordered at once has all of it.
 pub fn least_order()
-    ensures { (events : List Event) (r : ℕ → ℕ → Bool) → ((i j : ℕ) → Direct events i j → IsTrue (r i j))
-        → ((i j k : ℕ) → IsTrue (r i j) → IsTrue (r j k) → IsTrue (r i k)) → (i j : ℕ) → Before events i j → IsTrue (r i j) }
+    ensures { (locks : Bool) (events : List Event) (r : ℕ → ℕ → Bool) → ((i j : ℕ) → Direct locks events i j → IsTrue (r i j))
+        → ((i j k : ℕ) → IsTrue (r i j) → IsTrue (r j k) → IsTrue (r i k)) → (i j : ℕ) → Before locks events i j → IsTrue (r i j) }
 {}

@@ -1,5 +1,5 @@
 //! The race report: which words of RAM two cores come to with nothing that orders them. Each core has a vector clock, and for
-//! each word are kept the clock that its conditional stores release and each core's last access of each kind.
+//! each word are kept the clock that was released on it and each core's last access of each kind.
 #![tactic(auto)]
 
 mod adding;

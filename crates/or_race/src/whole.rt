@@ -20,17 +20,21 @@ pub struct Added {
 pub fn report_of(
     alloc: Global,
     cores: u32,
+    locks: bool,
     adds: &[Added],
     out: &mut Vec<u8>,
 ) -> Result<(), NoMemory>
     requires cores { cores ≤ 8 }
     requires rises { Rises cores 0 adds.now }
-    ensures ok { OnOk result ((text : List ℕ) × RaceText (events adds.now) text × (out.new.items ≡ out.old.items ++ text)) }
+    ensures ok { OnOk result ((text : List ℕ) × RaceText locks (events adds.now) text × (out.new.items ≡ out.old.items ++ text)) }
     ensures err { OnErr result (out.new.items ≡ out.old.items) }
 {
-    let mut races = Races::new(alloc, cores);
+    let mut races = Races::new(alloc, cores, locks);
     for add in adds {
         races.add(add.turn, &add.access)?;
     }
-    races.write(out)
+    match races.write(out) {
+        Ok(()) => Ok(()),
+        Err(fault) => Err(fault),
+    }
 }

@@ -1,6 +1,7 @@
 //! What is kept of a word, and what an access does to it and to its core's vector clock.
-ghost use Rattle.std.specs.Prelude.{◌≡◌, ◌≢◌, ℕ, ◌<◌, ◌≤◌, max, slice_index, slice_set, IfNone, IfSome, if◌then◌else◌};
-ghost use Rattle.or_race.specs.Event.{event};
+ghost use Rattle.std.specs.Prelude.{◌≡◌, ◌≢◌, ℕ, ◌<◌, ◌≤◌, max, not, slice_index, slice_set, IfNone, IfSome, if◌then◌else◌};
+ghost use Rattle.or_race.specs.Event.{event, is_release};
+ghost use Rattle.or_race.specs.Race.{is_plain};
 ghost use Rattle.or_race.specs.Kept.{blank, conflicting_of, NextClock, NextWord, NoRace, IsLatestRace, ReleasedAfter, LastsAfter};
 
 use crate::line::Line;
@@ -12,8 +13,8 @@ pub type VectorClock = [u64; 8];
 /// For each core the turn of its last access of a kind, and 0 where there is none.
 pub type Turns = [u64; 8];
 
-/// What is kept of a word: the clock that its conditional stores release, each core's last access of each kind, and the first
-/// race that was found on it.
+/// What is kept of a word: the clock that was released on it, each core's last access of each kind, whether an l.lwa or an
+/// l.swa accessed it, and the first race that was found on it.
 #[derive(Clone, Copy)]
 pub struct Word {
     pub(crate) released: VectorClock,
@@ -21,6 +22,7 @@ pub struct Word {
     pub(crate) stores: Turns,
     pub(crate) linked: Turns,
     pub(crate) conditionals: Turns,
+    pub(crate) synchronizes: bool,
     pub(crate) found: Option<Line>,
 }
 
@@ -34,6 +36,7 @@ pub(crate) fn blank_word() -> Word
         stores: [0; 8],
         linked: [0; 8],
         conditionals: [0; 8],
+        synchronizes: false,
         found: None,
     }
 }
@@ -56,7 +59,7 @@ fn joined(a: &VectorClock, b: &VectorClock) -> VectorClock
     both
 }
 
-// The clock of the access's core after it. A linked load acquires what the word's conditional stores released.
+// The clock of the access's core after it. A linked load acquires what was released on the word.
 pub(crate) fn next_clock(
     before: &VectorClock,
     released: &VectorClock,
@@ -119,11 +122,27 @@ fn latest_race(cores: u32, clock: &VectorClock, word: &Word, turn: u64, a: &Acce
     })
 }
 
-// What the word's conditional stores release, after the access, where clock is then its core's clock.
-fn released_after(released: &VectorClock, clock: &VectorClock, a: &Access) -> VectorClock
-    ensures { ReleasedAfter a.now.kind released.now clock.now result }
+// Whether an access of this kind releases its word: a conditional store, and with locks a plain store too.
+fn releases(locks: bool, kind: AccessKind) -> bool
+    ensures { result ≡ is_release locks kind }
 {
-    if a.kind == AccessKind::Conditional {
+    match kind {
+        AccessKind::Conditional => true,
+        AccessKind::Store => locks,
+        AccessKind::Load | AccessKind::Linked => false,
+    }
+}
+
+// What is released on the word after the access, where clock is then its core's clock.
+fn released_after(
+    locks: bool,
+    released: &VectorClock,
+    clock: &VectorClock,
+    a: &Access,
+) -> VectorClock
+    ensures { ReleasedAfter locks a.now.kind released.now clock.now result }
+{
+    if releases(locks, a.kind) {
         joined(released, clock)
     } else {
         *released
@@ -142,22 +161,37 @@ fn lasts_after(kind: AccessKind, turns: &Turns, turn: u64, a: &Access) -> Turns
     after
 }
 
+// Whether an access of this kind makes its word a synchronization word.
+fn synchronizes(kind: AccessKind) -> bool
+    ensures { result ≡ not (is_plain kind) }
+{
+    matches!(kind, AccessKind::Linked | AccessKind::Conditional)
+}
+
 // What is kept of the word after the access, where clock is then its core's clock.
-pub(crate) fn next_word(cores: u32, clock: &VectorClock, word: &Word, turn: u64, a: &Access) -> Word
+pub(crate) fn next_word(
+    locks: bool,
+    cores: u32,
+    clock: &VectorClock,
+    word: &Word,
+    turn: u64,
+    a: &Access,
+) -> Word
     requires cores { cores ≤ 8 }
     requires core { a.now.core < 8 }
-    ensures { NextWord cores (event turn a.now) clock.now word.now result }
+    ensures { NextWord locks cores (event turn a.now) clock.now word.now result }
 {
     let found = match word.found {
         Some(line) => Some(line),
         None => latest_race(cores, clock, word, turn, a),
     };
     Word {
-        released: released_after(&word.released, clock, a),
+        released: released_after(locks, &word.released, clock, a),
         loads: lasts_after(AccessKind::Load, &word.loads, turn, a),
         stores: lasts_after(AccessKind::Store, &word.stores, turn, a),
         linked: lasts_after(AccessKind::Linked, &word.linked, turn, a),
         conditionals: lasts_after(AccessKind::Conditional, &word.conditionals, turn, a),
+        synchronizes: word.synchronizes || synchronizes(a.kind),
         found,
     }
 }

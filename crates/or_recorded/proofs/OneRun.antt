@@ -3,6 +3,7 @@ use Rattle.std.proofs.Common.{◌≡◌, ◌∙◌, sym, ap, subst, ℕ, List}
 use Rattle.or_sched.specs.Recording.{IsRecording}
 use Rattle.or_sched.proofs.Unique.{unique}
 use Rattle.or_command.specs.Writes.{File}
+use Rattle.or_command_line.specs.declared.RaceOptions.{RaceOptions}
 use Rattle.or_command_line.specs.Names.{Recorded}
 use Rattle.or_race.specs.Text.{RaceText}
 use Rattle.or_race.proofs.OneReport.{one_text}
@@ -20,10 +21,10 @@ one_run files run other is also =
     λ i. record { files = files_are i; head = same.0 i; turns = same.1 i; marks = same.2 i }
 
 -- a recorded run has one race report
-pub one_race_report : (names : Recorded) (read : List (List ℕ)) (outs others : List File) (console other : List ℕ) → RaceWrites names read outs console
-    → RaceWrites names read others other → (outs ≡ others) × (console ≡ other)
-one_race_report names read outs others console other is also =
+pub one_race_report : (names : Recorded) (options : RaceOptions) (read : List (List ℕ)) (outs others : List File) (console other : List ℕ) → RaceWrites names options read outs console
+    → RaceWrites names options read others other → (outs ≡ others) × (console ≡ other)
+one_race_report names options read outs others console other is also =
     let same = one_run _ is.made.run also.made.run is.made.is also.made.is in
-    let first : RaceText (events_of (start_of also.made.run) also.made.run.turns) console =
-    subst (λ (run : Run). RaceText (events_of (start_of run) run.turns) console) same is.made.makes in
-    (is.outputs ∙ sym also.outputs, one_text (events_of (start_of also.made.run) also.made.run.turns) console other first also.made.makes)
+    let first : RaceText options.locks (events_of (start_of also.made.run) also.made.run.turns) console =
+    subst (λ (run : Run). RaceText options.locks (events_of (start_of run) run.turns) console) same is.made.makes in
+    (is.outputs ∙ sym also.outputs, one_text options.locks (events_of (start_of also.made.run) also.made.run.turns) console other first also.made.makes)

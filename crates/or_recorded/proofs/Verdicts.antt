@@ -1,6 +1,6 @@
 -- A recorded run has one verdict.
-use Rattle.std.proofs.Common.{◌≡◌, ◌≢◌, ℕ, List, [], ◌++◌, Option, Some, None, refl, ap, sym, ◌∙◌, subst, take, append-nil}
-use Rattle.std.specs.Prelude.{◌⊎◌, Result, Ok, Err}
+use Rattle.std.proofs.Common.{◌≡◌, ◌≢◌, ℕ, List, [], Option, Some, None, refl, ap, sym, ◌∙◌, subst, take, append-nil}
+use Rattle.std.specs.Prelude.{◌⊎◌, Err}
 use Rattle.std.proofs.Common.{inl, inr, arith}
 use Rattle.sha2.specs.Sha256.{sha256}
 use Rattle.or_words.specs.Settings.{ram_bytes}
@@ -10,11 +10,10 @@ use Rattle.or_sched.specs.declared.recording.Head.{Head}
 use Rattle.or_sched.specs.declared.recording.Mark.{Mark}
 use Rattle.or_sched.specs.declared.recording.RecFault.{RecFault}
 use Rattle.or_sched.specs.declared.recording.RecFault.TheVariants.{BadHead, BadRun, Short, NoMemory as NoMemoryToRead}
-use Rattle.or_sched.specs.Recording.{IsRecording, FaultAt, Begins, fault_name}
+use Rattle.or_sched.specs.Recording.{IsRecording, Begins, fault_name}
 use Rattle.or_sched.specs.Reading.{IsShort}
 use Rattle.or_sched.proofs.Unique.{unique}
 use Rattle.or_sched.proofs.Faults.{one_fault, no_fault}
-use Rattle.or_model.specs.Turn.{Board}
 use Rattle.or_command.specs.declared.refusal.Digests.{Digests}
 use Rattle.or_command.specs.Ends.{FailedCheck}
 use Rattle.or_command_line.specs.Names.{Recorded}
@@ -27,7 +26,7 @@ use Rattle.or_replay.proofs.FirstRefusal.{followed_in_one_way}
 use Rattle.or_recorded.specs.declared.checked.RunFault.{RunFault}
 use Rattle.or_recorded.specs.declared.checked.RunFault.TheVariants.{Text, Image, Input, Elf, Turns, NoMemory}
 use Rattle.or_recorded.specs.Checked.{IsTextFault, IsFirstFault, IsOtherImage, IsOtherInput, IsOfRun, IsImageFault, IsTurnFault, IsChecked}
-use Rattle.or_recorded.specs.Replay.{fault_check, IsRefused, IsSound, BytesJudged}
+use Rattle.or_recorded.specs.Replay.{fault_check, BytesJudged}
 use Rattle.or_recorded.proofs.Recorded.{marks_fit}
 
 some_none : {T : Type 0} (found : Option T) (x : T) → found ≡ None → found ≡ Some x → ⊥

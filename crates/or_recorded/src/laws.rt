@@ -2,6 +2,7 @@
 ghost use Rattle.std.specs.Prelude.{◌≡◌, ℕ, List, Option};
 ghost use Rattle.or_command.specs.Writes.{File};
 ghost use Rattle.or_command.specs.Ends.{FailedCheck};
+ghost use Rattle.or_command_line.specs.declared.RaceOptions.{RaceOptions};
 ghost use Rattle.or_command_line.specs.Names.{recorded_names};
 ghost use Rattle.or_recorded.specs.Race.{RaceWrites};
 ghost use Rattle.or_recorded.specs.Replay.{RecordedVerdict};
@@ -18,8 +19,8 @@ pub fn files_have_one_verdict(names: &Recorded<'_>)
 
 /// The files of a recorded run have one race report.
 pub fn files_have_one_race_report(names: &Recorded<'_>)
-    ensures { (files : List (List ℕ)) (outs others : List File) (console other : List ℕ) → RaceWrites (recorded_names names.now) files outs console
-        → RaceWrites (recorded_names names.now) files others other → (outs ≡ others) × (console ≡ other) }
+    ensures { (options : RaceOptions) (files : List (List ℕ)) (outs others : List File) (console other : List ℕ) → RaceWrites (recorded_names names.now) options files outs console
+        → RaceWrites (recorded_names names.now) options files others other → (outs ≡ others) × (console ≡ other) }
 {
     let _ = names;
 }

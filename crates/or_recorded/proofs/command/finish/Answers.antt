@@ -1,6 +1,6 @@
 use Rattle.or_command.specs.Ends.{end_of}
 use Rattle.or_command.specs.Loads.{bytes_of}
-use Rattle.or_recorded.specs.Files.{names_of, bytes_of_files, files_in}
+use Rattle.or_recorded.specs.Files.{names_of, bytes_of_files}
 use Rattle.or_recorded.proofs.Commands.{refused_ends}
 use Rattle.or_recorded.proofs.command.finish.Goals as goal
 
