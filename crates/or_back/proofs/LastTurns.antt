@@ -12,10 +12,10 @@ length_made start turns zero = refl
 length_made start turns (suc n) = length-append (turns_made start turns n) (turn_made start turns n ∷ []) ∙ ap (λ m. m + 1) (length_made start turns n) ∙ add-one n
 
 -- none of them so far
-pub last_none : (start : Board) (turns : List ℕ) (from : ℕ) (text : List ℕ) → text ≡ text ++ made_text (drop from (turns_made start turns from))
-last_none start turns from text =
-    let long = length_made start turns from in
-    sym (ap (λ (l : List MadeTurn). text ++ made_text l) (drop_all from (turns_made start turns from) (omega (arith, long))) ∙ append-nil text)
+pub last_none : (start : Board) (turns : List ℕ) (from place : ℕ) (text : List ℕ) → place ≡ from → text ≡ text ++ made_text (drop from (turns_made start turns place))
+last_none start turns from place text here =
+    let long = length_made start turns place in
+    sym (ap (λ (l : List MadeTurn). text ++ made_text l) (drop_all from (turns_made start turns place) (omega (arith, long, here))) ∙ append-nil text)
 
 -- one more
 pub last_more : (start : Board) (turns : List ℕ) (from place : ℕ) (text old new : List ℕ) → from ≤ place → old ≡ text ++ made_text (drop from (turns_made start turns place))

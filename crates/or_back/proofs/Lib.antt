@@ -4,4 +4,5 @@ pub mod Scripts
 pub mod Vectors
 pub mod Standing
 pub mod LastTurns
+pub mod SearchingBack
 pub mod Sessions

@@ -1,22 +1,20 @@
 -- Commands that are answered one by one.
-use Rattle.std.proofs.Common.{◌≡◌, ◌∙◌, refl, sym, ap, subst, ℕ, ◌+◌, ◌<◌, ◌≤◌, List, [], ◌∷◌, ◌++◌, length, drop, map, get_or, add-one, append_assoc, append-nil, None}
-use Rattle.std.proofs.lemmas.List.{map-append}
+use Rattle.std.proofs.Common.{◌≡◌, ◌∙◌, refl, sym, ap, subst, ℕ, ◌+◌, ◌<◌, ◌≤◌, List, [], ◌∷◌, ◌++◌, length, drop, get_or, add-one, append_assoc, append-nil}
 use Rattle.std.proofs.Math.Seq.{drop-cons}
 use Rattle.std.proofs.lemmas.List.{drop_all}
 use Rattle.or_script.specs.declared.command.Command.{Command}
-use Rattle.or_script.specs.declared.command.Command.TheVariants.{Watch, Last}
+use Rattle.or_script.specs.declared.command.Command.TheVariants.{Watch, Stores, Last}
 use Rattle.or_model.specs.Turn.{Board}
-use Rattle.or_debug.specs.declared.points.Breakpoint.{Breakpoint}
-use Rattle.or_debug.specs.declared.points.Watchpoint.{Watchpoint}
+use Rattle.or_debug.specs.declared.stops.Stops.{Stops}
 use Rattle.or_replay.specs.Board.{IsBoard}
 use Rattle.or_debug.specs.Turns.{after, turns_made, last_of}
 use Rattle.or_debug.specs.Shown.{made_text}
-use Rattle.or_debug.proofs.Seen.{ram_behind}
+use Rattle.or_debug.proofs.Seen.{ram_behind, seen_behind}
+use Rattle.or_debug.specs.Points.{Points, no_points, with_watch, with_store}
 use Rattle.or_debug.specs.Hits.{ram_in}
 use Rattle.or_debug.specs.Session.{State, first_state}
-use Rattle.or_debug.specs.Standing.{seen, addresses}
+use Rattle.or_debug.specs.Standing.{HasSeen, points_of}
 use Rattle.or_back.specs.declared.history.History.{History}
-use Rattle.or_back.specs.declared.stops.Stops.{Stops}
 use Rattle.or_back.specs.declared.lines.BackCommand.{BackCommand}
 use Rattle.or_back.specs.declared.lines.BackCommand.TheVariants.{Plain}
 use Rattle.or_back.specs.Session.{back_answer, back_session_from}
@@ -69,61 +67,49 @@ up_to_some start turns first commands place before middle later history stops up
 pub no_front : (whole before : List ℕ) → IsFront whole before before
 no_front whole before = record { front = []; rest = whole; parts = refl; text = sym (append-nil before) }
 
-no_watches : (f : Watchpoint → Watchpoint) (points : List Watchpoint) → points ≡ [] → map f points ≡ points
-no_watches f [] none = refl
-no_watches f (point ∷ points) none = absurd (let b : ⊥ = cc in b)
-
 -- a session begins without points
-pub fresh : (start : Board) (turns : List ℕ) (history : History) (stops : Stops) → Tells history start turns → stops.watches.items ≡ [] → StandsBack history stops start turns
-fresh start turns history stops tells none = record { tells = tells; watches = no_watches (seen (ram_in (after start turns history.at))) stops.watches.items none }
+pub fresh : (start : Board) (turns : List ℕ) (history : History) (stops : Stops) → Tells history start turns → ((ram : List ℕ) → HasSeen ram stops) → StandsBack history stops start turns
+fresh start turns history stops tells none = record { tells = tells; seen_is = none (ram_in (after start turns history.at)) }
 
-pub first_at : (history : History) (stops : Stops) → history.at ≡ 0 → stops.breaks.items ≡ [] → stops.watches.items ≡ [] → state_at history.at stops ≡ first_state
-first_at history stops at breaks watches =
-    ap (λ (n : ℕ). record { turn = n; breaks = stops.breaks.items; watches = addresses stops.watches.items }) at
-    ∙ ap (λ (b : List Breakpoint). record { turn = 0; breaks = b; watches = addresses stops.watches.items }) breaks
-    ∙ ap (λ (w : List Watchpoint). record { turn = 0; breaks = []; watches = addresses w }) watches
+pub first_at : (history : History) (stops : Stops) → history.at ≡ 0 → points_of stops ≡ no_points → state_at history.at stops ≡ first_state
+first_at history stops at none = ap (λ (n : ℕ). record { turn = n; points = points_of stops }) at ∙ ap (λ (p : Points). record { turn = 0; points = p }) none
 
--- a watchpoint more, which has seen RAM
-watch_added : (start : Board) (turns : List ℕ) (old new : History) (old_stops new_stops : Stops) (address : ℕ) (text : List ℕ) → StandsBack old old_stops start turns → Tells new start turns
-    → new.at ≡ old.at → new_stops.breaks.items ≡ old_stops.breaks.items
-    → ((now : Board) → IsBoard old.board.cores old.board.bus now → new_stops.watches.items ≡ old_stops.watches.items ++ seen now.world.ram (record { address = address; word = None }) ∷ [])
-    → text ≡ [] → IsBackAnswered start turns old old_stops (Plain (Watch address)) text new new_stops
-watch_added start turns old new old_stops new_stops address text stands tells same breaks looked none =
+-- a point more, which has seen RAM where the history stands
+pub seen_here : (start : Board) (turns : List ℕ) (old new : History) (old_stops new_stops : Stops) → StandsBack old old_stops start turns → Tells new start turns → new.at ≡ old.at
+    → ((now : Board) → IsBoard old.board.cores old.board.bus now → HasSeen now.world.ram old_stops → HasSeen now.world.ram new_stops) → StandsBack new new_stops start turns
+seen_here start turns old new old_stops new_stops stands tells same sees =
     let here = stands.tells.here in
-    let ram = here.now.world.ram in
-    let point : Watchpoint = record { address = address; word = None } in
-    let first = old_stops.watches.items in
-    let added = looked here.now here.is in
-    let behind = ram_in (after start turns old.at) in
-    record {
-      stands = record {
-        tells = tells;
-        watches = ap (λ (n : ℕ). map (seen (ram_in (after start turns n))) new_stops.watches.items) same
-            ∙ ap (map (seen behind)) added ∙ map-append (seen behind) first (seen ram point ∷ [])
-            ∙ ap (λ (l : List Watchpoint). l ++ seen behind point ∷ []) stands.watches
-            ∙ ap (λ (r : List ℕ). first ++ seen r point ∷ []) (ram_behind start turns old.at old.board.cores old.board.bus here) ∙ sym added;
-      };
-      state = ap (λ (n : ℕ). record { turn = n; breaks = new_stops.breaks.items; watches = addresses new_stops.watches.items }) same
-          ∙ ap (λ (b : List Breakpoint). record { turn = old.at; breaks = b; watches = addresses new_stops.watches.items }) breaks
-          ∙ ap (λ (w : List Watchpoint). record { turn = old.at; breaks = old_stops.breaks.items; watches = addresses w }) added
-          ∙ ap (λ (w : List ℕ). record { turn = old.at; breaks = old_stops.breaks.items; watches = w }) (map-append (λ (p : Watchpoint). p.address) first (seen ram point ∷ []));
-      text_is = none;
-    }
+    let before : HasSeen here.now.world.ram old_stops = subst (λ ram. HasSeen ram old_stops) (ram_behind start turns old.at old.board.cores old.board.bus here) stands.seen_is in
+    let seen : HasSeen (ram_in (after start turns old.at)) new_stops = seen_behind start turns old.at old.board.cores old.board.bus here new_stops (sees here.now here.is before) in
+    record { tells = tells; seen_is = subst (λ (n : ℕ). HasSeen (ram_in (after start turns n)) new_stops) (sym same) seen }
 
--- the command says so
 pub watch_told : (start : Board) (turns : List ℕ) (old new : History) (old_stops new_stops : Stops) (command : Command) (address : ℕ) (text : List ℕ) → command ≡ Watch address
-    → StandsBack old old_stops start turns → Tells new start turns → new.at ≡ old.at → new_stops.breaks.items ≡ old_stops.breaks.items
-    → ((now : Board) → IsBoard old.board.cores old.board.bus now → new_stops.watches.items ≡ old_stops.watches.items ++ seen now.world.ram (record { address = address; word = None }) ∷ [])
-    → text ≡ [] → IsBackAnswered start turns old old_stops (Plain command) text new new_stops
-watch_told start turns old new old_stops new_stops command address text is stands tells same breaks looked none =
+    → StandsBack new new_stops start turns → new.at ≡ old.at → points_of new_stops ≡ with_watch (points_of old_stops) address → text ≡ []
+    → IsBackAnswered start turns old old_stops (Plain command) text new new_stops
+watch_told start turns old new old_stops new_stops command address text is stands same points none =
     subst (λ (c : Command). IsBackAnswered start turns old old_stops (Plain c) text new new_stops) (sym is)
-    (watch_added start turns old new old_stops new_stops address text stands tells same breaks looked none)
+    (record {
+      stands = stands;
+      state = ap (λ (n : ℕ). record { turn = n; points = points_of new_stops }) same ∙ ap (λ (p : Points). record { turn = old.at; points = p }) points;
+      text_is = none;
+    })
+
+pub store_told : (start : Board) (turns : List ℕ) (old new : History) (old_stops new_stops : Stops) (command : Command) (address : ℕ) (text : List ℕ) → command ≡ Stores address
+    → StandsBack new new_stops start turns → new.at ≡ old.at → points_of new_stops ≡ with_store (points_of old_stops) address → text ≡ []
+    → IsBackAnswered start turns old old_stops (Plain command) text new new_stops
+store_told start turns old new old_stops new_stops command address text is stands same points none =
+    subst (λ (c : Command). IsBackAnswered start turns old old_stops (Plain c) text new new_stops) (sym is)
+    (record {
+      stands = stands;
+      state = ap (λ (n : ℕ). record { turn = n; points = points_of new_stops }) same ∙ ap (λ (p : Points). record { turn = old.at; points = p }) points;
+      text_is = none;
+    })
 
 -- the last turns, behind which the history stands again
 pub last_shown : (start : Board) (turns : List ℕ) (count : ℕ) (old new : History) (stops : Stops) (text : List ℕ) → StandsBack old stops start turns → Tells new start turns → new.at ≡ old.at
     → text ≡ made_text (last_of count (turns_made start turns old.at)) → IsBackAnswered start turns old stops (Plain (Last count)) text new stops
 last_shown start turns count old new stops text stands tells same is = record {
-  stands = record { tells = tells; watches = ap (λ (n : ℕ). map (seen (ram_in (after start turns n))) stops.watches.items) same ∙ stands.watches };
+  stands = record { tells = tells; seen_is = subst (λ (n : ℕ). HasSeen (ram_in (after start turns n)) stops) (sym same) stands.seen_is };
   state = ap (λ (n : ℕ). state_at n stops) same;
   text_is = is;
 }

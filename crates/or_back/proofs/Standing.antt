@@ -1,51 +1,37 @@
 -- How the backward debugger stands while its history goes on.
-use Rattle.std.proofs.Common.{◌≡◌, ◌≢◌, ◌∙◌, refl, sym, ap, subst, ℕ, ◌+◌, ◌<◌, ◌≤◌, List, [], ◌++◌, length, map}
-use Rattle.std.specs.List.{flat_map}
-use Rattle.std.specs.Prelude.{min, slice_get, slice_index}
+use Rattle.std.proofs.Common.{◌≡◌, ◌≢◌, ◌∙◌, refl, sym, ap, subst, ℕ, ◌+◌, ◌<◌, ◌≤◌, List, [], ◌++◌, length}
+use Rattle.std.specs.Prelude.{min}
 use Rattle.circular_buffer.specs.Buffer.{buffer}
 use Rattle.or_model.specs.Turn.{Board}
 use Rattle.or_replay.specs.Board.{IsBoard}
 use Rattle.or_script.specs.declared.command.Command.TheVariants.{Go}
 use Rattle.or_debug.specs.declared.turns.MadeTurn.{MadeTurn}
-use Rattle.or_debug.specs.declared.points.Watchpoint.{Watchpoint}
-use Rattle.or_debug.specs.Turns.{pc_of, turn_made, turns_made, last_of}
-use Rattle.or_debug.specs.Hits.{break_line}
-use Rattle.or_debug.specs.Session.{at_line, end_line}
-use Rattle.or_debug.specs.Standing.{IsAfter, IsMade, IsFollowed, IsGoing, IsAnswered, Stands, seen, seen_line, addresses}
-use Rattle.or_debug.proofs.Following.{made_further}
-use Rattle.or_debug.proofs.Seen.{followed, all_seen, same_addresses}
+use Rattle.or_debug.specs.declared.stops.Stops.{Stops}
+use Rattle.or_debug.specs.Turns.{turn_made, turns_made, last_of}
+use Rattle.or_debug.specs.Points.{Points}
+use Rattle.or_debug.specs.Hits.{hits_of}
+use Rattle.or_debug.specs.Session.{end_line}
+use Rattle.or_debug.specs.Standing.{IsAfter, IsMade, IsFollowed, IsGoing, IsAnswered, Stands, HasSeen, HasLooked, points_of}
+use Rattle.or_debug.proofs.Seen.{followed, seen_behind}
 use Rattle.or_debug.proofs.Going.{going_none, going_on, going_hits, going_ends}
 use Rattle.or_back.specs.declared.history.History.{History}
-use Rattle.or_back.specs.declared.stops.Stops.{Stops}
 use Rattle.or_back.specs.declared.lines.BackCommand.TheVariants.{Plain}
 use Rattle.or_back.specs.Tells.{Tells}
-use Rattle.or_back.specs.Backward.{debugger_at, StandsBack, IsNext, IsGone, IsBackAnswered}
+use Rattle.or_back.specs.Backward.{debugger_at, StandsBack, IsNext, IsThere, IsBackAnswered}
 
 -- the debugger of the first turns stands there
 pub stands_of : (start : Board) (turns : List ℕ) (history : History) (stops : Stops) → StandsBack history stops start turns
     → Stands start turns (debugger_at start turns history.at stops) history.board.cores history.board.bus
-stands_of start turns history stops is = record { reaches = record { board = is.tells.here; ring = refl }; watches = is.watches }
-
--- the turn that was made last
-pub made_last : (start : Board) (turns : List ℕ) (history : History) (place : ℕ) (made : MadeTurn) → Tells history start turns → history.at ≡ place + 1
-    → made ≡ record { turn = place + 1; core = slice_index history.turns.items place; pc = pc_of (slice_get history.board.cores (slice_index history.turns.items place)) }
-    → made ≡ turn_made start turns place
-made_last start turns history place made tells at is =
-    let cores = history.board.cores in
-    let here : IsAfter start turns (place + 1) cores history.board.bus = subst (λ (n : ℕ). IsAfter start turns n cores history.board.bus) at tells.here in
-    is ∙ ap (λ (l : List ℕ). record { turn = place + 1; core = slice_index l place; pc = pc_of (slice_get cores (slice_index l place)) }) tells.turns_are
-    ∙ made_further start turns place (pc_of (slice_get cores (slice_index turns place))) cores history.board.bus here refl
+stands_of start turns history stops is = record { reaches = record { board = is.tells.here; ring = refl }; seen_is = is.seen_is }
 
 -- one turn more, once its hits are written
 pub next_turn : (start : Board) (turns : List ℕ) (old middle new : History) (old_stops new_stops : Stops) (before later : List ℕ) (made : MadeTurn)
     → StandsBack old old_stops start turns → Tells middle start turns → Tells new start turns → middle.at ≡ old.at + 1 → new.at ≡ middle.at → made ≡ turn_made start turns old.at
-    → new_stops.breaks.items ≡ old_stops.breaks.items
-    → ((now : Board) → IsBoard middle.board.cores middle.board.bus now
-    → later ≡ before ++ (flat_map (break_line made) old_stops.breaks.items ++ flat_map (seen_line made.turn now.world.ram) old_stops.watches.items))
-    → ((now : Board) → IsBoard middle.board.cores middle.board.bus now → new_stops.watches.items ≡ map (seen now.world.ram) old_stops.watches.items)
+    → ((now : Board) (ram : List ℕ) → IsBoard middle.board.cores middle.board.bus now → HasSeen ram old_stops → later ≡ before ++ hits_of made ram now.world.ram (points_of old_stops))
+    → ((now : Board) → IsBoard middle.board.cores middle.board.bus now → HasLooked now.world.ram old_stops new_stops)
     → ((now : Board) → IsBoard middle.board.cores middle.board.bus now → IsBoard new.board.cores new.board.bus now)
     → IsNext start turns old old_stops before new new_stops later
-next_turn start turns old middle new old_stops new_stops before later made stands tells new_tells moved stays is breaks text looked same =
+next_turn start turns old middle new old_stops new_stops before later made stands tells new_tells moved stays is text looks same =
     let at : new.at ≡ old.at + 1 = stays ∙ moved in
     let cores = middle.board.cores in
     let bus = middle.board.bus in
@@ -58,8 +44,8 @@ next_turn start turns old middle new old_stops new_stops before later made stand
       made_is = is;
     } in
     let done = followed start turns (debugger_at start turns old.at old_stops) last before later made old.board.cores cores new.board.cores old.board.bus bus new.board.bus
-    (stands_of start turns old old_stops stands) made_here at breaks text looked same in
-    record { stands = record { tells = new_tells; watches = done.stands.watches }; state = done.state; text = done.text }
+    (stands_of start turns old old_stops stands) made_here at text looks same in
+    record { stands = record { tells = new_tells; seen_is = done.stands.seen_is }; state = done.state; text = done.text }
 
 -- as the debugger sees it
 next_followed : (start : Board) (turns : List ℕ) (old new : History) (old_stops new_stops : Stops) (before later : List ℕ) → IsNext start turns old old_stops before new new_stops later
@@ -76,7 +62,7 @@ goes_none start turns history stops is =
     (is.tells, going_none start turns (debugger_at start turns history.at stops) history.board.cores history.board.bus (stands_of start turns history stops is))
 
 pub goes_back : (start : Board) (turns : List ℕ) (old new : History) (old_stops new_stops : Stops) → Goes start turns old old_stops new new_stops → StandsBack new new_stops start turns
-goes_back start turns old new old_stops new_stops goes = record { tells = goes.0; watches = goes.1.stands.watches }
+goes_back start turns old new old_stops new_stops goes = record { tells = goes.0; seen_is = goes.1.stands.seen_is }
 
 inside_of : (start : Board) (turns : List ℕ) (history : History) → Tells history start turns → history.at < length history.turns.items → history.at < length turns
 inside_of start turns history tells inside = subst (λ (l : List ℕ). history.at < length l) tells.turns_are inside
@@ -93,7 +79,7 @@ goes_on start turns old middle new old_stops middle_stops new_stops before later
 answered_of : (start : Board) (turns : List ℕ) (old new : History) (old_stops new_stops : Stops) (text : List ℕ) → Tells new start turns
     → IsAnswered start turns (debugger_at start turns old.at old_stops) Go text (debugger_at start turns new.at new_stops) new.board.cores new.board.bus
     → IsBackAnswered start turns old old_stops (Plain Go) text new new_stops
-answered_of start turns old new old_stops new_stops text tells is = record { stands = record { tells = tells; watches = is.stands.watches }; state = is.state; text_is = is.text }
+answered_of start turns old new old_stops new_stops text tells is = record { stands = record { tells = tells; seen_is = is.stands.seen_is }; state = is.state; text_is = is.text }
 
 pub goes_hit : (start : Board) (turns : List ℕ) (old middle new : History) (old_stops middle_stops new_stops : Stops) (before later : List ℕ) → Goes start turns old old_stops middle middle_stops
     → middle.at < length middle.turns.items → IsNext start turns middle middle_stops before new new_stops later → before ≡ [] → later ≢ []
@@ -111,24 +97,16 @@ goes_end start turns old new old_stops new_stops text goes past is =
     (going_ends start turns (debugger_at start turns old.at old_stops) (debugger_at start turns new.at new_stops) text new.board.cores new.board.bus goes.1
     (subst (λ (l : List ℕ). length l ≤ new.at) goes.0.turns_are past) is)
 
--- the history at another turn, with watchpoints that have looked
-pub gone : (start : Board) (turns : List ℕ) (turn : ℕ) (middle new : History) (old_stops new_stops : Stops) (text : List ℕ) → Tells middle start turns → Tells new start turns
-    → middle.at ≡ min turn (length turns) → new.at ≡ middle.at → new_stops.breaks.items ≡ old_stops.breaks.items
-    → ((now : Board) → IsBoard middle.board.cores middle.board.bus now → new_stops.watches.items ≡ map (seen now.world.ram) old_stops.watches.items)
-    → text ≡ at_line new.at → IsGone start turns turn old_stops new new_stops text
-gone start turns turn middle new old_stops new_stops text tells new_tells moved stays breaks looked is =
+-- the history at another turn, where the points have looked
+pub there : (start : Board) (turns : List ℕ) (turn : ℕ) (middle new : History) (old_stops new_stops : Stops) → Tells middle start turns → Tells new start turns
+    → middle.at ≡ min turn (length turns) → new.at ≡ middle.at
+    → ((now : Board) → IsBoard middle.board.cores middle.board.bus now → HasLooked now.world.ram old_stops new_stops)
+    → IsThere start turns turn old_stops new new_stops
+there start turns turn middle new old_stops new_stops tells new_tells moved stays looks =
     let at : new.at ≡ min turn (length turns) = stays ∙ moved in
     let here : IsAfter start turns new.at middle.board.cores middle.board.bus = subst (λ (n : ℕ). IsAfter start turns n middle.board.cores middle.board.bus) (sym stays) tells.here in
-    let saw = looked here.now here.is in
-    let n = min turn (length turns) in
+    let look = looks here.now here.is in
     record {
-      stands = record {
-        tells = new_tells;
-        watches = all_seen start turns new.at middle.board.cores middle.board.bus here old_stops.watches.items new_stops.watches.items saw;
-      };
-      state = ap (λ (t : ℕ). record { turn = t; breaks = new_stops.breaks.items; watches = addresses new_stops.watches.items }) at
-          ∙ ap (λ b. record { turn = n; breaks = b; watches = addresses new_stops.watches.items }) breaks
-          ∙ ap (λ (w : List Watchpoint). record { turn = n; breaks = old_stops.breaks.items; watches = addresses w }) saw
-          ∙ ap (λ (w : List ℕ). record { turn = n; breaks = old_stops.breaks.items; watches = w }) (same_addresses here.now.world.ram old_stops.watches.items);
-      text_is = is ∙ ap at_line at;
+      stands = record { tells = new_tells; seen_is = seen_behind start turns new.at middle.board.cores middle.board.bus here new_stops look.seen_is };
+      state = ap (λ (t : ℕ). record { turn = t; points = points_of new_stops }) at ∙ ap (λ (p : Points). record { turn = min turn (length turns); points = p }) look.points;
     }

@@ -1,5 +1,6 @@
 -- How the backward debugger stands, and what it answers.
-use Rattle.std.specs.Prelude.{◌≡◌, ℕ, ◌+◌, min, List, ◌++◌, Some, None, drop, length, map, Result, Ok, Err}
+use Rattle.std.specs.Prelude.{◌≡◌, ℕ, ◌+◌, min, List, ◌++◌, Option, Some, None, drop, length, Result, Ok, Err}
+use Rattle.std.specs.Option.{option_or}
 use Rattle.circular_buffer.specs.Buffer.{buffer}
 use Rattle.or_script.specs.declared.command.LineFault.{LineFault}
 use Rattle.or_script.specs.declared.fault.ScriptFault.{ScriptFault}
@@ -7,36 +8,52 @@ use Rattle.or_script.specs.declared.fault.ScriptFault.TheVariants.{BadCommand, O
 use Rattle.or_model.specs.Turn.{Board}
 use Rattle.or_debug.specs.declared.debugger.Debugger.{Debugger}
 use Rattle.or_debug.specs.Turns.{after, turns_made, last_of}
+use Rattle.or_debug.specs.Points.{Points}
 use Rattle.or_debug.specs.Hits.{ram_in, hit_lines}
 use Rattle.or_debug.specs.Session.{State, at_line}
-use Rattle.or_debug.specs.Standing.{addresses, seen}
+use Rattle.or_debug.specs.Standing.{HasSeen, points_of}
 use Rattle.or_back.specs.declared.history.History.{History}
-use Rattle.or_back.specs.declared.stops.Stops.{Stops}
+use Rattle.or_debug.specs.declared.stops.Stops.{Stops}
 use Rattle.or_back.specs.declared.lines.BackCommand.{BackCommand}
 use Rattle.or_back.specs.Script.{back_fault_of}
-use Rattle.or_back.specs.Session.{back_state_after, back_answer, back_session_from}
+use Rattle.or_back.specs.Session.{last_hit, back_state_after, back_answer, back_session_from}
 use Rattle.or_back.specs.Tells.{Tells}
 
 -- the debugger that has followed the first so many turns, with these points
 abbrev pub debugger_at : Board → List ℕ → ℕ → Stops → Debugger
-debugger_at start turns n stops = record { turn = n; breaks = stops.breaks; watches = stops.watches; last = buffer (last_of 64 (turns_made start turns n)) 64 }
+debugger_at start turns n stops = record { turn = n; stops = stops; last = buffer (last_of 64 (turns_made start turns n)) 64 }
 
 -- the state at a turn, with these points
 abbrev pub state_at : ℕ → Stops → State
-state_at n stops = record { turn = n; breaks = stops.breaks.items; watches = addresses stops.watches.items }
+state_at n stops = record { turn = n; points = points_of stops }
 
--- the history is of these turns, and each watchpoint has the word of RAM where it stands
+-- the history is of these turns, and the points have seen RAM where it stands
 pub record StandsBack (history : History) (stops : Stops) (start : Board) (turns : List ℕ) : Type 0 where
   pub tells : Tells history start turns
-  pub watches : map (seen (ram_in (after start turns history.at))) stops.watches.items ≡ stops.watches.items
+  pub seen_is : HasSeen (ram_in (after start turns history.at)) stops
+
+-- it stands there with the same points
+pub record StandsWith (start : Board) (turns : List ℕ) (points : Points) (history : History) (stops : Stops) : Type 0 where
+  pub stands : StandsBack history stops start turns
+  pub points_are : points_of stops ≡ points
+
+-- of the turns from a place on, up to where the history stands, the last is known that hits something
+pub record Searches (start : Board) (turns : List ℕ) (points : Points) (from : ℕ) (found : Option ℕ) (history : History) (stops : Stops) : Type 0 where
+  pub stands : StandsWith start turns points history stops
+  pub last : last_hit (hit_lines start turns points) history.at ≡ option_or found (last_hit (hit_lines start turns points) from)
 
 -- the next turn was made, with the lines of what it hits
 pub record IsNext (start : Board) (turns : List ℕ) (old : History) (old_stops : Stops) (before : List ℕ) (new : History) (new_stops : Stops) (later : List ℕ) : Type 0 where
   pub stands : StandsBack new new_stops start turns
-  pub state : state_at new.at new_stops ≡ record { turn = old.at + 1; breaks = old_stops.breaks.items; watches = addresses old_stops.watches.items }
-  pub text : later ≡ before ++ hit_lines start turns old_stops.breaks.items (addresses old_stops.watches.items) old.at
+  pub state : state_at new.at new_stops ≡ record { turn = old.at + 1; points = points_of old_stops }
+  pub text : later ≡ before ++ hit_lines start turns (points_of old_stops) old.at
 
 -- the history went to a turn, or to the last where there are fewer
+pub record IsThere (start : Board) (turns : List ℕ) (turn : ℕ) (old_stops : Stops) (new : History) (new_stops : Stops) : Type 0 where
+  pub stands : StandsBack new new_stops start turns
+  pub state : state_at new.at new_stops ≡ state_at (min turn (length turns)) old_stops
+
+-- and says so
 pub record IsGone (start : Board) (turns : List ℕ) (turn : ℕ) (old_stops : Stops) (new : History) (new_stops : Stops) (text : List ℕ) : Type 0 where
   pub stands : StandsBack new new_stops start turns
   pub state : state_at new.at new_stops ≡ state_at (min turn (length turns)) old_stops

@@ -1,4 +1,4 @@
--- The lines of the backward debugger: those of the debugger, and two that go to another turn.
+-- The lines of the backward debugger: those of the debugger, and three that go to another turn.
 use Rattle.std.specs.Prelude.{ℕ, nat_le, if◌then◌else◌, ◌&&◌, List, [], ◌∷◌, codes, Option, Some, None, Result, Ok, Err}
 use Rattle.std.specs.Str.{bytes_eq}
 use Rattle.or_words.specs.declared.Config.{Config}
@@ -10,7 +10,7 @@ use Rattle.or_script.specs.Operands.{number_of}
 use Rattle.or_script.specs.Command.{is_word, words_of}
 use Rattle.or_script.specs.Script.{command_at, points_after}
 use Rattle.or_back.specs.declared.lines.BackCommand.{BackCommand}
-use Rattle.or_back.specs.declared.lines.BackCommand.TheVariants.{Plain, Back, To}
+use Rattle.or_back.specs.declared.lines.BackCommand.TheVariants.{Plain, Back, To, GoBack}
 
 -- `back N`: 1 to 4294967295 turns
 abbrev pub back_line : Option ℕ → Result BackCommand LineFault
@@ -22,6 +22,9 @@ abbrev pub to_line : Option ℕ → Result BackCommand LineFault
 to_line None = Err BadCommand
 to_line (Some n) = if is_word n then Ok (To n) else Err OutOfRange
 
+abbrev pub move_alone : List ℕ → Option (Result BackCommand LineFault)
+move_alone name = if bytes_eq name (codes "rgo") then Some (Ok GoBack) else None
+
 abbrev pub move_named : List ℕ → List ℕ → Option (Result BackCommand LineFault)
 move_named name word =
     if bytes_eq name (codes "back") then Some (back_line (number_of word))
@@ -30,7 +33,7 @@ move_named name word =
 -- what a line of these words says that goes to another turn; none where it is no such line
 abbrev pub move_of : List (List ℕ) → Option (Result BackCommand LineFault)
 move_of [] = None
-move_of (name ∷ []) = None
+move_of (name ∷ []) = move_alone name
 move_of (name ∷ word ∷ []) = move_named name word
 move_of (name ∷ first ∷ second ∷ others) = None
 
@@ -52,3 +55,4 @@ abbrev pub back_points_after : Points → BackCommand → Points
 back_points_after points (Plain command) = points_after points command
 back_points_after points (Back n) = points
 back_points_after points (To n) = points
+back_points_after points GoBack = points

@@ -9,12 +9,11 @@ ghost use Rattle.or_back.specs.declared.lines.BackCommand.TheVariants.{Plain, Ba
 ghost use Rattle.or_script.specs.declared.command.Command.TheVariants.{Turn};
 ghost use Rattle.or_back.specs.Backward.{StandsBack, IsBackAnswered, IsAppended, IsFront, AnswersBackScript, state_at};
 
-use crate::backward::{append_last, go, travel};
+use crate::backward::{append_last, go, go_back, travel};
 use crate::history::History;
 use crate::lines::BackCommand;
 use crate::script::{check, commands};
-use crate::stops::Stops;
-use or_debug::{append_lines, append_memory, append_registers};
+use or_debug::{Stops, append_lines, append_memory, append_registers};
 use or_script::{Command, ScriptFault};
 use std::alloc::{AllocError, Global};
 
@@ -69,6 +68,7 @@ fn answer_plain(
         Command::Turn { turns: count } => go_forward(history, stops, count, text),
         Command::Break { core, pc } => stops.set_break(core, pc),
         Command::Watch { address } => stops.set_watch(&mut history.board, address),
+        Command::Stores { address } => stops.set_store(&mut history.board, address),
         Command::Registers { core } => append_registers(alloc, &history.board, core, text),
         Command::Memory { address, words } => {
             append_memory(&mut history.board, address, words, text)
@@ -95,6 +95,7 @@ fn answer(
         BackCommand::Plain { command } => answer_plain(alloc, history, stops, command, text),
         BackCommand::Back { turns: count } => go_backward(history, stops, count, text),
         BackCommand::To { turn } => travel(history, stops, u64::from(turn), text),
+        BackCommand::GoBack => go_back(history, stops, text),
     }
 }
 

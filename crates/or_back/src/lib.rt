@@ -8,7 +8,6 @@ mod history;
 mod lines;
 mod moves;
 mod script;
-mod stops;
 mod travel;
 
 pub use answering::session;

@@ -2,7 +2,7 @@
 ghost use Rattle.std.specs.Prelude.{◌≡◌, IfOk, ◌∷◌};
 ghost use Rattle.or_script.specs.Command.{words_of};
 ghost use Rattle.or_script.specs.Script.{AreFew};
-ghost use Rattle.or_back.specs.Lines.{back_line, to_line, move_named, move_of, plain, back_command_at, back_points_after};
+ghost use Rattle.or_back.specs.Lines.{back_line, to_line, move_alone, move_named, move_of, plain, back_command_at, back_points_after};
 
 use or_script::{Command, LineFault, Points, add_point, command_at, cut, number};
 use or_words::Config;
@@ -16,6 +16,8 @@ pub enum BackCommand {
     Back { turns: u32 },
     /// `to N`: go to turn N, 0 to 4294967295, or to the last turn where there are fewer.
     To { turn: u32 },
+    /// `rgo`: go back behind the last turn before the one made last that hits a point, or to turn 0 where none does.
+    GoBack,
 }
 
 const TOO_LARGE: u64 = 1 << 32;
@@ -52,6 +54,16 @@ fn to_line(number: Option<u64>) -> Result<BackCommand, LineFault>
     }
 }
 
+fn move_alone(name: &[u8]) -> Option<Result<BackCommand, LineFault>>
+    ensures { result ≡ move_alone name.now }
+{
+    if name == b"rgo".as_slice() {
+        Some(Ok(BackCommand::GoBack))
+    } else {
+        None
+    }
+}
+
 fn move_named(name: &[u8], word: &[u8]) -> Option<Result<BackCommand, LineFault>>
     ensures { result ≡ move_named name.now word.now }
 {
@@ -82,7 +94,7 @@ fn read_move(line: &[u8]) -> Option<Result<BackCommand, LineFault>>
 {
     let (name, more) = cut(b' ', line);
     match more {
-        None => None,
+        None => move_alone(name),
         Some(text) => move_behind(name, text),
     }
 }
@@ -97,7 +109,7 @@ fn plain(line: Result<Command, LineFault>) -> Result<BackCommand, LineFault>
 }
 
 // The command of a line behind others that give so many points: BadCommand where the line has none of the forms, else
-// OutOfRange where a number is out of its range or the line gives a 17th breakpoint or watchpoint.
+// OutOfRange where a number is out of its range or the line gives a 17th breakpoint, watchpoint or store point.
 #[tactic(auto, unfolding(crate::specs::Lines::back_command_at))]
 pub(crate) fn back_command_at(
     config: &Config,

@@ -1,21 +1,14 @@
 //! Turns that are made.
 ghost use Rattle.std.specs.Prelude.{◌≡◌, ◌+◌, ℕ, ◌<◌, ◌≤◌, List, length};
 ghost use Rattle.or_model.specs.Turn.{Board as BoardModel};
-ghost use Rattle.or_debug.specs.Standing.{CanFollow, IsAfter};
+ghost use Rattle.or_debug.specs.Standing.{CanFollow, IsAfter, IsTurnMade};
 ghost use Rattle.or_back.specs.Tells.{AllStand};
 
 use crate::checkpoints::{keep, latest};
 use crate::history::Checkpoint;
+use or_debug::{MadeTurn, make_turn};
 use or_replay::Board;
 use std::alloc::Global;
-
-// Makes the turn at a place. The turns can be followed, so none is refused.
-fn make_one(board: &mut Board, turns: &[u8], at: usize)
-    requires { at < length turns.now }
-    ensures { (start : BoardModel) → CanFollow start turns.now → IsAfter start turns.now at board.old.cores board.old.bus → IsAfter start turns.now (at + 1) board.new.cores board.new.bus }
-{
-    let _refused = board.turn(turns[at]);
-}
 
 // Whether a copy of the board behind these turns is kept.
 fn is_kept(kept: &[Checkpoint], turn: usize) -> bool {
@@ -26,26 +19,27 @@ fn is_kept(kept: &[Checkpoint], turn: usize) -> bool {
 }
 
 // Makes the turn at a place, and keeps a copy behind each so many turns.
-fn step(
+pub(crate) fn step(
     alloc: Global,
     board: &mut Board,
     kept: &mut Vec<Checkpoint>,
     turns: &[u8],
     every: u64,
     at: usize,
-)
+) -> MadeTurn
     requires within { at < length turns.now }
     requires steps { 0 < every }
-    ensures here { (start : BoardModel) → CanFollow start turns.now → IsAfter start turns.now at board.old.cores board.old.bus → IsAfter start turns.now (at + 1) board.new.cores board.new.bus }
+    ensures made { (start : BoardModel) → CanFollow start turns.now → IsAfter start turns.now at board.old.cores board.old.bus
+        → IsTurnMade start turns.now at result board.new.cores board.new.bus }
     ensures kept { (start : BoardModel) → CanFollow start turns.now → IsAfter start turns.now at board.old.cores board.old.bus
         → AllStand start turns.now kept.old.items → AllStand start turns.now kept.new.items }
     ensures few { length kept.old.items ≤ 3 → length kept.new.items ≤ 3 }
 {
-    make_one(board, turns, at);
-    if (at as u64 + 1) % every != 0 || is_kept(kept, at + 1) {
-        return;
+    let made = make_turn(board, turns, at);
+    if (at as u64 + 1) % every == 0 && !is_kept(kept, at + 1) {
+        keep(alloc, kept, board, at + 1);
     }
-    keep(alloc, kept, board, at + 1);
+    made
 }
 
 // Makes the turns from one place to another, and keeps copies on the way.

@@ -20,6 +20,7 @@ pub fn check(config: &Config, script: &[u8]) -> Result<(), ScriptFault>
     let mut points = Points {
         breaks: 0,
         watches: 0,
+        stores: 0,
     };
     let mut number = 1;
     while let Some(text) = rest {
@@ -50,6 +51,7 @@ pub(crate) fn commands(
     let mut points = Points {
         breaks: 0,
         watches: 0,
+        stores: 0,
     };
     let mut at = 1;
     while let Some(text) = rest {

@@ -2,12 +2,14 @@
 ghost use Rattle.std.specs.Prelude.{◌≡◌, ◌≤◌, ◌<◌, ◌+◌, ◌-◌, ◌^◌, ℕ, List, min, length, IfOk, IsOk, OnOk, OnErr, slice_index};
 ghost use Rattle.or_model.specs.Turn.{Board as BoardModel};
 ghost use Rattle.or_replay.specs.Board.{IsBoard};
+ghost use Rattle.or_debug.specs.Turns.{turn_made};
 ghost use Rattle.or_debug.specs.Standing.{CanFollow};
 ghost use Rattle.or_back.specs.Tells.{Tells};
 
 use crate::checkpoints::{copy_of, latest};
 use crate::history::History;
-use crate::moves::forward;
+use crate::moves::{forward, step};
+use or_debug::MadeTurn;
 use or_replay::Board;
 use or_words::NoMemory;
 use std::alloc::Global;
@@ -103,6 +105,39 @@ impl History {
         );
         self.made = self.made.saturating_add((to - at) as u64);
         self.at = to;
+    }
+
+    // Makes the next turn.
+    pub(crate) fn make_next(&mut self) -> MadeTurn
+        requires { self.old.at < length self.old.turns.items }
+        ensures tells { (start : BoardModel) (turns : List ℕ) → Tells self.old start turns → Tells self.new start turns }
+        ensures made { (start : BoardModel) (turns : List ℕ) → Tells self.old start turns → result ≡ turn_made start turns self.old.at }
+        ensures at { self.new.at ≡ self.old.at + 1 }
+        ensures turns { self.new.turns ≡ self.old.turns }
+    {
+        let at = self.at;
+        let made = step(
+            self.alloc,
+            &mut self.board,
+            &mut self.kept,
+            &self.turns,
+            self.every,
+            at,
+        );
+        self.made = self.made.saturating_add(1);
+        self.at = at + 1;
+        made
+    }
+
+    // The turn of the latest copy that stands before a turn.
+    pub(crate) fn copy_before(&self, turn: usize) -> usize
+        requires { 0 < turn }
+        ensures { result < turn }
+    {
+        match latest(&self.kept, turn - 1) {
+            Some(i) => self.kept[i].turn,
+            None => 0,
+        }
     }
 
     /// Goes to the board behind the first `n` turns, or behind all of them where there are fewer, and answers how many

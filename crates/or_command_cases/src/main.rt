@@ -16,7 +16,7 @@ use std::process::ExitCode;
 use std::sync::Wait;
 use std::thread::Threads;
 
-const FILES: [&str; 9] = [
+const FILES: [&str; 10] = [
     "host.cases",
     "images.cases",
     "line.cases",
@@ -24,6 +24,7 @@ const FILES: [&str; 9] = [
     "spellings.cases",
     "run.cases",
     "look.cases",
+    "points.cases",
     "hunt.cases",
     "locks.cases",
 ];

@@ -1,17 +1,19 @@
 -- A schedule that is followed one turn further.
 use Rattle.std.proofs.Common.{◌≡◌, ◌∙◌, refl, sym, ap, subst, ℕ, ◌+◌, ◌-◌, ◌<◌, List, [], ◌∷◌, ◌++◌, length, take, drop, get_or, Some, None, Result, Ok, Err, add-one, length-append, arith}
-use Rattle.std.specs.Prelude.{Option, slice_get, slice_index}
+use Rattle.std.specs.Prelude.{Option, slice_get, slice_index, option_and_then}
 use Rattle.std.proofs.Math.Seq.{take-suc}
 use Rattle.std.proofs.lemmas.List.{take-append-drop, drop-append-le, drop-drop, length-drop}
 use Rattle.circular_buffer.specs.Buffer.{Buffer, buffer, keep_last}
 use Rattle.or_model.specs.Core.{Core}
 use Rattle.or_model.specs.Turn.{Board, board_turned, and_then, replay}
 use Rattle.or_bus.specs.State.{BusState}
+use Rattle.or_bus.specs.declared.access.Access.{Access}
 use Rattle.or_replay.specs.Board.{IsBoard, IsTurned}
+use Rattle.or_replay.specs.Watching.{board_access, IsObserved}
 use Rattle.or_replay.specs.declared.board.Refused.{Refused}
 use Rattle.or_replay.proofs.Replaying.{replay_behind}
 use Rattle.or_debug.specs.declared.turns.MadeTurn.{MadeTurn}
-use Rattle.or_debug.specs.Turns.{after, pc_of, pc_in, turn_made, turns_made, last_of}
+use Rattle.or_debug.specs.Turns.{after, pc_of, pc_in, access_made, word_stored, stored_in, turn_made, turns_made, last_of}
 use Rattle.or_debug.specs.Standing.{CanFollow, IsAfter}
 
 and_then_some : (first : Option Board) (next : Board → Option Board) (last : Board) → and_then first next ≡ Some last → (middle : Board) × (first ≡ Some middle)
@@ -40,12 +42,12 @@ next_after start now turns n before inside =
     ap (after start turns) (add-one n) ∙ ap (replay start) (take-suc turns n 0 inside) ∙ replay_behind start (take n turns) (get_or turns n 0)
     ∙ ap (λ b. and_then b (λ last. board_turned last (get_or turns n 0))) before
 
-turned_some : (turned : Option Board) (next : Board) (result : Result (Unit {0}) Refused) (cores : List Core) (bus : BusState) → turned ≡ Some next → IsTurned turned result cores bus → IsBoard cores bus next
+turned_some : {T : Type 0} (turned : Option Board) (next : Board) (result : Result T Refused) (cores : List Core) (bus : BusState) → turned ≡ Some next → IsTurned turned result cores bus → IsBoard cores bus next
 turned_some None next result cores bus is made = absurd (let b : ⊥ = cc in b)
 turned_some (Some other) next (Err refused) cores bus is made = absurd made
 turned_some (Some other) next (Ok done) cores bus is made = let same : other ≡ next = cc in subst (IsBoard cores bus) same made
 
-pub one_further : (start : Board) (turns : List ℕ) (n : ℕ) (cores new_cores : List Core) (bus new_bus : BusState) (result : Result (Unit {0}) Refused)
+pub one_further : {T : Type 0} (start : Board) (turns : List ℕ) (n : ℕ) (cores new_cores : List Core) (bus new_bus : BusState) (result : Result T Refused)
     → CanFollow start turns → IsAfter start turns n cores bus → n < length turns
     → ((board : Board) → IsBoard cores bus board → IsTurned (board_turned board (slice_index turns n)) result new_cores new_bus)
     → IsAfter start turns (n + 1) new_cores new_bus
@@ -81,11 +83,32 @@ ring_further start turns n old new made before pushed is =
     ∙ ap (λ (m : MadeTurn). buffer (last_of 64 (turns_made start turns n ++ m ∷ [])) 64) is
     ∙ ap (λ l. buffer (last_of 64 l) 64) (sym (turns_longer start turns n))
 
--- the pc that a turn left
-pub made_further : (start : Board) (turns : List ℕ) (n pc : ℕ) (cores : List Core) (bus : BusState) → IsAfter start turns (n + 1) cores bus → pc ≡ pc_of (slice_get cores (slice_index turns n))
-    → record { turn = n + 1; core = slice_index turns n; pc = pc } ≡ turn_made start turns n
-made_further start turns n pc cores bus is at =
+-- the word that a turn stored to, as it was observed
+stored_some : (turned : Option Board) (next board : Board) (c : ℕ) (result : Result (Option Access) Refused) (cores : List Core) (bus : BusState) → turned ≡ Some next
+    → IsTurned turned result cores bus → IsObserved board c result → stored_in result ≡ word_stored (board_access board c)
+stored_some None next board c result cores bus is made observed = absurd (let b : ⊥ = cc in b)
+stored_some (Some other) next board c (Err refused) cores bus is made observed = absurd made
+stored_some (Some other) next board c (Ok access) cores bus is made observed = ap word_stored observed
+
+pub stored_further : (start : Board) (turns : List ℕ) (n : ℕ) (cores new_cores : List Core) (bus new_bus : BusState) (result : Result (Option Access) Refused)
+    → CanFollow start turns → IsAfter start turns n cores bus → n < length turns
+    → ((board : Board) → IsBoard cores bus board → IsTurned (board_turned board (slice_index turns n)) result new_cores new_bus)
+    → ((board : Board) → IsBoard cores bus board → IsObserved board (slice_index turns n) result)
+    → stored_in result ≡ word_stored (access_made start turns n)
+stored_further start turns n cores new_cores bus new_bus result can is inside turned observed =
+    let c = slice_index turns n in
+    let next = front_follows start turns (n + 1) can in
+    let made = sym (next_after start is.now turns n is.reached inside) ∙ next.1 in
+    stored_some (board_turned is.now c) next.0 is.now c result new_cores new_bus made (turned is.now is.is) (observed is.now is.is)
+    ∙ ap (λ (o : Option Board). word_stored (option_and_then (λ board. board_access board c) o)) (sym is.reached)
+
+-- the turn that was made, by the pc that it left and the word that it stored to
+pub made_further : (start : Board) (turns : List ℕ) (n pc : ℕ) (stored : Option ℕ) (cores : List Core) (bus : BusState) → IsAfter start turns (n + 1) cores bus
+    → pc ≡ pc_of (slice_get cores (slice_index turns n)) → stored ≡ word_stored (access_made start turns n)
+    → record { turn = n + 1; core = slice_index turns n; pc = pc; stored = stored } ≡ turn_made start turns n
+made_further start turns n pc stored cores bus is at was_stored =
     let core = slice_index turns n in
     let same : pc ≡ pc_in (after start turns (n + 1)) core =
     at ∙ ap (λ l. pc_of (slice_get l core)) is.is.same_cores ∙ sym (ap (λ o. pc_in o core) is.reached) in
-    ap (λ p. record { turn = n + 1; core = core; pc = p }) same
+    ap (λ p. record { turn = n + 1; core = core; pc = p; stored = stored }) same
+    ∙ ap (λ s. record { turn = n + 1; core = core; pc = pc_in (after start turns (n + 1)) core; stored = s }) was_stored

@@ -6,11 +6,11 @@ use Rattle.or_model.specs.Core.{Core}
 use Rattle.or_model.specs.Turn.{Board}
 use Rattle.or_bus.specs.State.{BusState}
 use Rattle.or_script.specs.declared.command.Command.TheVariants.{Go}
-use Rattle.or_debug.specs.declared.points.Breakpoint.{Breakpoint}
+use Rattle.or_debug.specs.Points.{Points}
 use Rattle.or_debug.specs.declared.debugger.Debugger.{Debugger}
 use Rattle.or_debug.specs.Hits.{hit_lines, first_hit, is_empty}
 use Rattle.or_debug.specs.Session.{State, next_hit, stop_turn, stop_text, end_line}
-use Rattle.or_debug.specs.Standing.{Stands, IsFollowed, IsGoing, IsAnswered, addresses, state_of}
+use Rattle.or_debug.specs.Standing.{Stands, IsFollowed, IsGoing, IsAnswered, points_of, state_of}
 
 -- whether a list is empty, by its length
 pub empty_length : (l : List ℕ) → eqb (length l) 0 ≡ true → l ≡ []
@@ -39,33 +39,32 @@ first_hits lines n len inside some =
 none_left : (lines : ℕ → List ℕ) (n len : ℕ) → n ≡ len → first_hit lines n (len - n) ≡ None
 none_left lines n len ends = let left : len - n ≡ 0 = omega arith in ap (first_hit lines n) left
 
-passed : (start : Board) (turns : List ℕ) (state : State) → state.turn < length turns → hit_lines start turns state.breaks state.watches state.turn ≡ []
-    → next_hit start turns state ≡ next_hit start turns (record { turn = state.turn + 1; breaks = state.breaks; watches = state.watches })
+passed : (start : Board) (turns : List ℕ) (state : State) → state.turn < length turns → hit_lines start turns state.points state.turn ≡ []
+    → next_hit start turns state ≡ next_hit start turns (record { turn = state.turn + 1; points = state.points })
 unfolding next_hit
-passed start turns state inside nothing = first_passes (hit_lines start turns state.breaks state.watches) state.turn (length turns) inside nothing
+passed start turns state inside nothing = first_passes (hit_lines start turns state.points) state.turn (length turns) inside nothing
 
-hit : (start : Board) (turns : List ℕ) (state : State) → state.turn < length turns → hit_lines start turns state.breaks state.watches state.turn ≢ [] → next_hit start turns state ≡ Some state.turn
+hit : (start : Board) (turns : List ℕ) (state : State) → state.turn < length turns → hit_lines start turns state.points state.turn ≢ [] → next_hit start turns state ≡ Some state.turn
 unfolding next_hit
-hit start turns state inside some = first_hits (hit_lines start turns state.breaks state.watches) state.turn (length turns) inside some
+hit start turns state inside some = first_hits (hit_lines start turns state.points) state.turn (length turns) inside some
 
 ended : (start : Board) (turns : List ℕ) (state : State) → state.turn ≡ length turns → next_hit start turns state ≡ None
 unfolding next_hit
-ended start turns state ends = none_left (hit_lines start turns state.breaks state.watches) state.turn (length turns) ends
+ended start turns state ends = none_left (hit_lines start turns state.points) state.turn (length turns) ends
 
 -- nothing is hit before the first turn
 pub going_none : (start : Board) (turns : List ℕ) (debugger : Debugger) (cores : List Core) (bus : BusState) → Stands start turns debugger cores bus → IsGoing start turns debugger debugger cores bus
-going_none start turns debugger cores bus stands = record { stands = stands; breaks = refl; watches = refl; next = refl }
+going_none start turns debugger cores bus stands = record { stands = stands; points = refl; next = refl }
 
 -- one more turn that hits nothing
 pub going_on : (start : Board) (turns : List ℕ) (old middle new : Debugger) (before later : List ℕ) (cores new_cores : List Core) (bus new_bus : BusState) → IsGoing start turns old middle cores bus
     → middle.turn < length turns → IsFollowed start turns middle before new later new_cores new_bus → before ≡ [] → later ≡ [] → IsGoing start turns old new new_cores new_bus
 going_on start turns old middle new before later cores new_cores bus new_bus going inside followed none nothing =
-    let lines : hit_lines start turns middle.breaks.items (addresses middle.watches.items) middle.turn ≡ [] =
-    ap (λ l. l ++ hit_lines start turns middle.breaks.items (addresses middle.watches.items) middle.turn) (sym none) ∙ sym followed.text ∙ nothing in
+    let lines : hit_lines start turns (points_of middle.stops) middle.turn ≡ [] =
+    ap (λ l. l ++ hit_lines start turns (points_of middle.stops) middle.turn) (sym none) ∙ sym followed.text ∙ nothing in
     record {
       stands = followed.stands;
-      breaks = ap (λ (s : State). s.breaks) followed.state ∙ going.breaks;
-      watches = ap (λ (s : State). s.watches) followed.state ∙ going.watches;
+      points = ap (λ (s : State). s.points) followed.state ∙ going.points;
       next = ap (next_hit start turns) followed.state ∙ sym (passed start turns (state_of middle) inside lines) ∙ going.next;
     }
 
@@ -73,18 +72,16 @@ going_on start turns old middle new before later cores new_cores bus new_bus goi
 pub going_hits : (start : Board) (turns : List ℕ) (old middle new : Debugger) (before later : List ℕ) (cores new_cores : List Core) (bus new_bus : BusState) → IsGoing start turns old middle cores bus
     → middle.turn < length turns → IsFollowed start turns middle before new later new_cores new_bus → before ≡ [] → later ≢ [] → IsAnswered start turns old Go later new new_cores new_bus
 going_hits start turns old middle new before later cores new_cores bus new_bus going inside followed none some =
-    let text : later ≡ hit_lines start turns middle.breaks.items (addresses middle.watches.items) middle.turn =
-    followed.text ∙ ap (λ l. l ++ hit_lines start turns middle.breaks.items (addresses middle.watches.items) middle.turn) none in
+    let text : later ≡ hit_lines start turns (points_of middle.stops) middle.turn =
+    followed.text ∙ ap (λ l. l ++ hit_lines start turns (points_of middle.stops) middle.turn) none in
     let next : next_hit start turns (state_of old) ≡ Some middle.turn = sym going.next ∙ hit start turns (state_of middle) inside (λ e. some (text ∙ e)) in
     record {
       stands = followed.stands;
       state = followed.state
-          ∙ ap (λ (b : List Breakpoint). record { turn = middle.turn + 1; breaks = b; watches = addresses middle.watches.items }) going.breaks
-          ∙ ap (λ (w : List ℕ). record { turn = middle.turn + 1; breaks = old.breaks.items; watches = w }) going.watches
-          ∙ ap (λ (n : Option ℕ). record { turn = stop_turn turns n; breaks = old.breaks.items; watches = addresses old.watches.items }) (sym next);
+          ∙ ap (λ (p : Points). record { turn = middle.turn + 1; points = p }) going.points
+          ∙ ap (λ (n : Option ℕ). record { turn = stop_turn turns n; points = points_of old.stops }) (sym next);
       text = text
-          ∙ ap (λ (b : List Breakpoint). hit_lines start turns b (addresses middle.watches.items) middle.turn) going.breaks
-          ∙ ap (λ (w : List ℕ). hit_lines start turns old.breaks.items w middle.turn) going.watches
+          ∙ ap (λ (p : Points). hit_lines start turns p middle.turn) going.points
           ∙ ap (stop_text start turns (state_of old)) (sym next);
     }
 
@@ -96,9 +93,8 @@ going_ends start turns old new written cores bus going past text =
     let next : next_hit start turns (state_of old) ≡ None = sym going.next ∙ ended start turns (state_of new) ends in
     record {
       stands = going.stands;
-      state = ap (λ (n : ℕ). record { turn = n; breaks = new.breaks.items; watches = addresses new.watches.items }) ends
-          ∙ ap (λ (b : List Breakpoint). record { turn = length turns; breaks = b; watches = addresses new.watches.items }) going.breaks
-          ∙ ap (λ (w : List ℕ). record { turn = length turns; breaks = old.breaks.items; watches = w }) going.watches
-          ∙ ap (λ (n : Option ℕ). record { turn = stop_turn turns n; breaks = old.breaks.items; watches = addresses old.watches.items }) (sym next);
+      state = ap (λ (n : ℕ). record { turn = n; points = points_of new.stops }) ends
+          ∙ ap (λ (p : Points). record { turn = length turns; points = p }) going.points
+          ∙ ap (λ (n : Option ℕ). record { turn = stop_turn turns n; points = points_of old.stops }) (sym next);
       text = text ∙ ap end_line ends ∙ ap (stop_text start turns (state_of old)) (sym next);
     }

@@ -1,5 +1,5 @@
 -- Commands that are answered one by one.
-use Rattle.std.proofs.Common.{◌≡◌, ◌∙◌, refl, sym, ap, subst, ℕ, ◌+◌, ◌<◌, ◌≤◌, List, [], ◌∷◌, ◌++◌, length, drop, map, get_or, add-one, append_assoc, append-nil, arith}
+use Rattle.std.proofs.Common.{◌≡◌, ◌∙◌, refl, sym, ap, subst, ℕ, ◌+◌, ◌<◌, ◌≤◌, List, [], ◌∷◌, ◌++◌, length, drop, get_or, add-one, append_assoc, append-nil, arith}
 use Rattle.std.proofs.Math.Seq.{drop-cons}
 use Rattle.std.proofs.lemmas.List.{drop_all}
 use Rattle.or_script.specs.declared.command.Command.{Command}
@@ -9,12 +9,11 @@ use Rattle.or_bus.specs.State.{BusState}
 use Rattle.circular_buffer.specs.Buffer.{buffer}
 use Rattle.or_words.specs.declared.Config.{Config}
 use Rattle.or_replay.specs.Board.{IsBoard}
-use Rattle.or_debug.specs.declared.points.Watchpoint.{Watchpoint}
 use Rattle.or_debug.specs.Turns.{after, turns_made, last_of}
 use Rattle.or_debug.specs.Hits.{ram_in}
 use Rattle.or_debug.specs.declared.debugger.Debugger.{Debugger}
 use Rattle.or_debug.specs.Session.{State, first_state, answer, session_from, state_behind, session_text}
-use Rattle.or_debug.specs.Standing.{IsAfter, Reaches, Stands, addresses, seen, state_of}
+use Rattle.or_debug.specs.Standing.{IsAfter, Reaches, Stands, HasSeen, state_of}
 use Rattle.or_debug.specs.Answers.{IsPart, IsAdded, IsUpTo, AreAnswered, SomeAnswered, IsRun, IsRunInPart}
 
 -- the command at a place, and those behind it
@@ -91,14 +90,10 @@ nothing_written config start turns script before cores bus is = record {
   board = at_start start turns cores bus is;
 }
 
-no_points : (f : Watchpoint → Watchpoint) (points : List Watchpoint) → addresses points ≡ [] → map f points ≡ points
-no_points f [] none = refl
-no_points f (point ∷ points) none = absurd (let b : ⊥ = cc in b)
-
 -- a debugger that has followed no turn
 pub fresh : (start : Board) (turns : List ℕ) (debugger : Debugger) (cores : List Core) (bus : BusState) → IsBoard cores bus start → state_of debugger ≡ first_state
-    → debugger.last ≡ buffer [] 64 → Stands start turns debugger cores bus
-fresh start turns debugger cores bus is state last =
+    → ((ram : List ℕ) → HasSeen ram debugger.stops) → debugger.last ≡ buffer [] 64 → Stands start turns debugger cores bus
+fresh start turns debugger cores bus is state none last =
     let turn : debugger.turn ≡ 0 = ap (λ (s : State). s.turn) state in
     let board : IsAfter start turns debugger.turn cores bus = subst (λ n. IsAfter start turns n cores bus) (sym turn) (at_start start turns cores bus is) in
     record {
@@ -106,7 +101,7 @@ fresh start turns debugger cores bus is state last =
         board = board;
         ring = last ∙ ap (λ n. buffer (last_of 64 (turns_made start turns n)) 64) (sym turn);
       };
-      watches = no_points (seen (ram_in (after start turns debugger.turn))) debugger.watches.items (ap (λ (s : State). s.watches) state);
+      seen_is = none (ram_in (after start turns debugger.turn));
     }
 
 pub run_all : (start : Board) (turns : List ℕ) (first last : Debugger) (commands : List Command) (before later : List ℕ) (cores : List Core) (bus : BusState) → state_of first ≡ first_state

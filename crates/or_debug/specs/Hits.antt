@@ -7,6 +7,7 @@ use Rattle.or_bus.specs.Answers.{word_shown}
 use Rattle.or_debug.specs.declared.turns.MadeTurn.{MadeTurn}
 use Rattle.or_debug.specs.declared.points.Breakpoint.{Breakpoint}
 use Rattle.or_debug.specs.Turns.{after, turn_made}
+use Rattle.or_debug.specs.Points.{Points}
 
 -- a turn of the breakpoint's core that left its pc there
 abbrev pub hits_break : MadeTurn → Breakpoint → Bool
@@ -15,10 +16,13 @@ hits_break made point = made.core == point.core && made.pc == point.pc
 abbrev pub break_line : MadeTurn → Breakpoint → List ℕ
 break_line made point = if hits_break made point then codes "break turn " ++ decimal made.turn ++ codes " core " ++ decimal point.core ++ codes "\n" else []
 
+-- a word of RAM before and after a turn, at the end of a line
+abbrev pub words_text : ℕ → ℕ → ℕ → List ℕ
+words_text address old new = codes " " ++ word_text address ++ codes " " ++ word_text old ++ codes " " ++ word_text new ++ codes "\n"
+
 -- a turn that changed a word of RAM
 abbrev pub changed_line : ℕ → ℕ → ℕ → ℕ → List ℕ
-changed_line turn address old new =
-    codes "watch turn " ++ decimal turn ++ codes " " ++ word_text address ++ codes " " ++ word_text old ++ codes " " ++ word_text new ++ codes "\n"
+changed_line turn address old new = codes "watch turn " ++ decimal turn ++ words_text address old new
 
 abbrev pub change_line : ℕ → ℕ → Option ℕ → Option ℕ → List ℕ
 change_line turn address None new = []
@@ -33,11 +37,31 @@ ram_in (Some board) = board.world.ram
 abbrev pub watch_line : ℕ → List ℕ → List ℕ → ℕ → List ℕ
 watch_line turn before later address = change_line turn address (word_shown before address) (word_shown later address)
 
--- the lines of what the turn behind the first so many hits: breakpoints first, each kind in the order of its lines
-unfoldable pub hit_lines : Board → List ℕ → List Breakpoint → List ℕ → ℕ → List ℕ
-hit_lines start turns breaks watches n =
-    flat_map (break_line (turn_made start turns n)) breaks
-    ++ flat_map (watch_line (n + 1) (ram_in (after start turns n)) (ram_in (after start turns (n + 1)))) watches
+-- a turn that stored to a word of RAM, of the same value too
+abbrev pub is_at : Option ℕ → ℕ → Bool
+is_at None address = false
+is_at (Some word) address = word == address
+
+abbrev pub stored_line : MadeTurn → ℕ → ℕ → ℕ → List ℕ
+stored_line made address old new = codes "store turn " ++ decimal made.turn ++ codes " core " ++ decimal made.core ++ words_text address old new
+
+abbrev pub store_words : MadeTurn → ℕ → Option ℕ → Option ℕ → List ℕ
+store_words made address None new = []
+store_words made address (Some old) None = []
+store_words made address (Some old) (Some new) = if is_at made.stored address then stored_line made address old new else []
+
+-- the line of a store point, by RAM before and after a turn
+abbrev pub store_line : MadeTurn → List ℕ → List ℕ → ℕ → List ℕ
+store_line made before later address = store_words made address (word_shown before address) (word_shown later address)
+
+-- the lines of what a turn hits, by RAM before and after it: breakpoints, then watchpoints, then store points
+abbrev pub hits_of : MadeTurn → List ℕ → List ℕ → Points → List ℕ
+hits_of made before later points =
+    flat_map (break_line made) points.breaks ++ (flat_map (watch_line made.turn before later) points.watches ++ flat_map (store_line made before later) points.stores)
+
+-- the lines of what the turn behind the first so many hits
+unfoldable pub hit_lines : Board → List ℕ → Points → ℕ → List ℕ
+hit_lines start turns points n = hits_of (turn_made start turns n) (ram_in (after start turns n)) (ram_in (after start turns (n + 1))) points
 
 abbrev pub is_empty : List ℕ → Bool
 is_empty [] = true

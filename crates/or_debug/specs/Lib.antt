@@ -1,4 +1,5 @@
 pub mod Turns
+pub mod Points
 pub mod Hits
 pub mod Shown
 pub mod Session

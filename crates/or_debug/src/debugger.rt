@@ -1,19 +1,15 @@
 //! The debugger on a schedule.
-ghost use Rattle.std.specs.Prelude.{◌≡◌, ◌<◌, ◌≤◌, ◌+◌, ◌++◌, [], ◌∷◌, length, map, slice_get, codes, decimal, None, OnOk, IfOk};
-ghost use Rattle.or_script.specs.declared.command.Command.TheVariants.{Nothing, Go, Turn, Break, Watch, Registers, Memory, Lines, Last};
+ghost use Rattle.std.specs.Prelude.{◌≡◌, ◌<◌, ◌≤◌, ◌+◌, ◌++◌, ℕ, List, [], length, codes, decimal, OnOk, IfOk};
+ghost use Rattle.or_script.specs.declared.command.Command.TheVariants.{Go, Turn};
 ghost use Rattle.or_script.specs.Last.{HasFewTurns};
 ghost use Rattle.circular_buffer.specs.Buffer.{buffer};
-ghost use Rattle.std.specs.List.{flat_map};
 ghost use Rattle.or_model.specs.Turn.{Board as BoardModel};
-ghost use Rattle.or_replay.specs.Board.{IsBoard};
-ghost use Rattle.or_debug.specs.Turns.{turn_made, pc_of};
-ghost use Rattle.or_debug.specs.Hits.{break_line, hit_lines};
-ghost use Rattle.or_debug.specs.Session.{first_state, state_after, answer, at_line, end_line, next_hit, stop_turn, stop_text};
-ghost use Rattle.or_debug.specs.Standing.{CanFollow, Reaches, IsMade, IsFollowed, Stands, IsAnswered, addresses, seen, seen_line, state_of};
+ghost use Rattle.or_debug.specs.Session.{first_state};
+ghost use Rattle.or_debug.specs.Standing.{CanFollow, Reaches, IsMade, IsFollowed, Stands, IsAnswered, HasSeen, state_of};
 
-use crate::points::{Breakpoint, Watchpoint, append_breaks, append_changes, look, look_at_all};
 use crate::shown::{append_lines, append_memory, append_registers};
-use crate::turns::{MadeTurn, append_last};
+use crate::stops::Stops;
+use crate::turns::{MadeTurn, append_last, make_turn};
 use circular_buffer::HeapCircularBuffer;
 use or_replay::Board;
 use or_script::Command;
@@ -27,71 +23,8 @@ const LAST_TURNS: usize = 64;
 #[derive(Drop)]
 pub struct Debugger {
     pub(crate) turn: usize,
-    pub(crate) breaks: Vec<Breakpoint>,
-    pub(crate) watches: Vec<Watchpoint>,
+    pub(crate) stops: Stops,
     pub(crate) last: HeapCircularBuffer<MadeTurn>,
-}
-
-/// The pc of a core, 0 where the board has no such core.
-pub fn pc_of(board: &Board, core: u8) -> u32
-    ensures { result ≡ pc_of (slice_get board.now.cores core) }
-{
-    match board.cores().get(usize::from(core)) {
-        Some(core) => core.place().pc,
-        None => 0,
-    }
-}
-
-// Makes the turn at a place of the schedule. The schedule can be followed, so no turn is refused.
-fn make_turn(
-    board: &mut Board,
-    turns: &[u8],
-    place: usize,
-    last: &mut HeapCircularBuffer<MadeTurn>,
-) -> MadeTurn
-    requires { place < length turns.now }
-    ensures made { (start : BoardModel) → CanFollow start turns.now → Reaches start turns.now place last.old board.old.cores board.old.bus
-        → IsMade start turns.now place result last.new board.new.cores board.new.bus }
-    ensures config { board.new.config ≡ board.old.config }
-{
-    let core = turns[place];
-    let _refused = board.turn(core);
-    let made = MadeTurn {
-        turn: place as u64 + 1,
-        core,
-        pc: pc_of(board, core),
-    };
-    last.push_back(made);
-    made
-}
-
-/// Each watchpoint sees RAM as it is.
-pub fn look_again(watches: &mut Vec<Watchpoint>, board: &mut Board)
-    ensures watches { (now : BoardModel) → IsBoard board.old.cores board.old.bus now → watches.new.items ≡ map (seen now.world.ram) watches.old.items }
-    ensures board { (now : BoardModel) → IsBoard board.old.cores board.old.bus now → IsBoard board.new.cores board.new.bus now }
-    ensures config { board.new.config ≡ board.old.config }
-{
-    look_at_all(watches.as_mut_slice(), board);
-}
-
-/// Appends the lines of what a turn hits, breakpoints first. Each watchpoint has then seen RAM as it is.
-pub fn append_hits(
-    breaks: &Vec<Breakpoint>,
-    watches: &mut Vec<Watchpoint>,
-    made: MadeTurn,
-    board: &mut Board,
-    text: &mut Vec<u8>,
-) -> Result<(), AllocError>
-    ensures text { OnOk result ((now : BoardModel) → IsBoard board.old.cores board.old.bus now
-        → text.new.items ≡ text.old.items ++ (flat_map (break_line made) breaks.now.items ++ flat_map (seen_line made.turn now.world.ram) watches.old.items)) }
-    ensures watches { OnOk result ((now : BoardModel) → IsBoard board.old.cores board.old.bus now → watches.new.items ≡ map (seen now.world.ram) watches.old.items) }
-    ensures board { (now : BoardModel) → IsBoard board.old.cores board.old.bus now → IsBoard board.new.cores board.new.bus now }
-    ensures config { board.new.config ≡ board.old.config }
-{
-    append_breaks(breaks.as_slice(), made, text)?;
-    append_changes(watches.as_slice(), made.turn, board, text)?;
-    look_again(watches, board);
-    Ok(())
 }
 
 /// Appends a line of a word and the number of turns so far.
@@ -107,13 +40,13 @@ impl Debugger {
     // A debugger before the first turn.
     pub(crate) fn new(alloc: Global) -> Result<Debugger, AllocError>
         ensures state { IfOk result (λ debugger. state_of debugger ≡ first_state) }
+        ensures seen { IfOk result (λ debugger. (ram : List ℕ) → HasSeen ram debugger.stops) }
         ensures last { IfOk result (λ debugger. debugger.last ≡ buffer [] 64) }
     {
         let last = HeapCircularBuffer::with_capacity(alloc, LAST_TURNS)?;
         Ok(Debugger {
             turn: 0,
-            breaks: Vec::new(alloc),
-            watches: Vec::new(alloc),
+            stops: Stops::new(alloc),
             last,
         })
     }
@@ -124,11 +57,11 @@ impl Debugger {
         ensures made { (start : BoardModel) → CanFollow start turns.now → Reaches start turns.now self.old.turn self.old.last board.old.cores board.old.bus
             → IsMade start turns.now self.old.turn result self.new.last board.new.cores board.new.bus }
         ensures turn { self.new.turn ≡ self.old.turn + 1 }
-        ensures breaks { self.new.breaks.items ≡ self.old.breaks.items }
-        ensures watches { self.new.watches.items ≡ self.old.watches.items }
+        ensures stops { self.new.stops ≡ self.old.stops }
         ensures config { board.new.config ≡ board.old.config }
     {
-        let made = make_turn(board, turns, self.turn, &mut self.last);
+        let made = make_turn(board, turns, self.turn);
+        self.last.push_back(made);
         self.turn += 1;
         made
     }
@@ -149,7 +82,7 @@ impl Debugger {
         ensures config { board.new.config ≡ board.old.config }
     {
         let made = self.advance(board, turns);
-        append_hits(&self.breaks, &mut self.watches, made, board, text)
+        self.stops.append_hits(made, board, text)
     }
 
     // Follows turns until one hits something or none is left.
@@ -176,8 +109,7 @@ impl Debugger {
         ensures reaches { (start : BoardModel) → CanFollow start turns.now → Reaches start turns.now self.old.turn self.old.last board.old.cores board.old.bus
             → Reaches start turns.now self.new.turn self.new.last board.new.cores board.new.bus }
         ensures turn { self.old.turn ≤ end → self.new.turn ≡ end }
-        ensures breaks { self.new.breaks.items ≡ self.old.breaks.items }
-        ensures watches { self.new.watches.items ≡ self.old.watches.items }
+        ensures stops { self.new.stops ≡ self.old.stops }
         ensures config { board.new.config ≡ board.old.config }
     {
         while self.turn < end {
@@ -202,40 +134,8 @@ impl Debugger {
     {
         let end = self.turn.saturating_add(count as usize).min(turns.len());
         self.advance_to(board, turns, end);
-        look_again(&mut self.watches, board);
+        self.stops.look_again(board);
         append_turn(b"at turn ", self.turn, text)
-    }
-
-    // From now on a breakpoint is there.
-    fn set_break(&mut self, core: u32, pc: u32) -> Result<(), AllocError>
-        ensures breaks { OnOk result (self.new.breaks.items ≡ self.old.breaks.items ++ (record { core = core; pc = pc }) ∷ []) }
-        ensures same { (self.new.turn ≡ self.old.turn) × (self.new.last ≡ self.old.last) × (self.new.watches.items ≡ self.old.watches.items) }
-    {
-        match self.breaks.push(Breakpoint { core, pc }) {
-            Ok(()) => Ok(()),
-            Err(_) => Err(AllocError),
-        }
-    }
-
-    // From now on a watchpoint is there, which has seen RAM as it is.
-    fn set_watch(&mut self, board: &mut Board, address: u32) -> Result<(), AllocError>
-        ensures watches { OnOk result ((now : BoardModel) → IsBoard board.old.cores board.old.bus now
-            → self.new.watches.items ≡ self.old.watches.items ++ seen now.world.ram (record { address = address; word = None }) ∷ []) }
-        ensures same { (self.new.turn ≡ self.old.turn) × (self.new.last ≡ self.old.last) × (self.new.breaks.items ≡ self.old.breaks.items) }
-        ensures board { (now : BoardModel) → IsBoard board.old.cores board.old.bus now → IsBoard board.new.cores board.new.bus now }
-        ensures config { board.new.config ≡ board.old.config }
-    {
-        let point = look(
-            Watchpoint {
-                address,
-                word: None,
-            },
-            board,
-        );
-        match self.watches.push(point) {
-            Ok(()) => Ok(()),
-            Err(_) => Err(AllocError),
-        }
     }
 
     // Does what a command says, and makes its text.
@@ -259,8 +159,9 @@ impl Debugger {
             Command::Nothing => Ok(()),
             Command::Go => self.go(board, turns, text),
             Command::Turn { turns: count } => self.make_turns(board, turns, count, text),
-            Command::Break { core, pc } => self.set_break(core, pc),
-            Command::Watch { address } => self.set_watch(board, address),
+            Command::Break { core, pc } => self.stops.set_break(core, pc),
+            Command::Watch { address } => self.stops.set_watch(board, address),
+            Command::Stores { address } => self.stops.set_store(board, address),
             Command::Registers { core } => append_registers(alloc, board, core, text),
             Command::Memory { address, words } => append_memory(board, address, words, text),
             Command::Lines { core } => append_lines(board, core, text),

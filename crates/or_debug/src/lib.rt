@@ -5,11 +5,12 @@ mod answering;
 mod debugger;
 mod points;
 mod shown;
+mod stops;
 mod turns;
 
 pub use answering::session;
-pub use debugger::{append_hits, append_turn, look_again, pc_of};
+pub use debugger::append_turn;
 pub use or_script::{ScriptFault, check};
-pub use points::{Breakpoint, Watchpoint, look};
 pub use shown::{append_lines, append_memory, append_registers};
-pub use turns::{MadeTurn, append_made};
+pub use stops::Stops;
+pub use turns::{MadeTurn, append_made, make_turn};

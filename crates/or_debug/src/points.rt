@@ -1,10 +1,10 @@
-//! Breakpoints and watchpoints.
+//! Breakpoints, watchpoints and store points.
 ghost use Rattle.std.specs.Prelude.{◌≡◌, ◌++◌, OnOk, map};
 ghost use Rattle.std.specs.List.{flat_map};
 ghost use Rattle.or_model.specs.Turn.{Board as BoardModel};
 ghost use Rattle.or_replay.specs.Board.{IsBoard};
-ghost use Rattle.or_debug.specs.Hits.{break_line, change_line, changed_line};
-ghost use Rattle.or_debug.specs.Standing.{seen, seen_line};
+ghost use Rattle.or_debug.specs.Hits.{break_line, words_text, change_line, changed_line, is_at, stored_line, store_words};
+ghost use Rattle.or_debug.specs.Standing.{seen, seen_line, seen_store};
 
 use crate::turns::MadeTurn;
 use or_replay::Board;
@@ -18,7 +18,8 @@ pub struct Breakpoint {
     pub pc: u32,
 }
 
-/// It is hit where a turn changed the word of RAM at the address from the word that was seen last.
+/// A watchpoint is hit where a turn changed the word of RAM at the address from the word that was seen last, a store point
+/// where a turn stored to it.
 #[derive(Clone, Copy, Debug, PartialEq, Eq)]
 pub struct Watchpoint {
     pub address: u32,
@@ -52,6 +53,19 @@ pub(crate) fn append_breaks(
     Ok(())
 }
 
+// A word of RAM before and after a turn, at the end of a line.
+fn append_words(address: u32, old: u32, new: u32, text: &mut Vec<u8>) -> Result<(), AllocError>
+    ensures { OnOk result (text.new.items ≡ text.old.items ++ words_text address old new) }
+{
+    text.extend_from_slice(b" ")?;
+    append_word(address, text)?;
+    text.extend_from_slice(b" ")?;
+    append_word(old, text)?;
+    text.extend_from_slice(b" ")?;
+    append_word(new, text)?;
+    text.extend_from_slice(b"\n")
+}
+
 fn append_changed(
     turn: u64,
     address: u32,
@@ -63,13 +77,7 @@ fn append_changed(
 {
     text.extend_from_slice(b"watch turn ")?;
     append_decimal(turn, text)?;
-    text.extend_from_slice(b" ")?;
-    append_word(address, text)?;
-    text.extend_from_slice(b" ")?;
-    append_word(old, text)?;
-    text.extend_from_slice(b" ")?;
-    append_word(new, text)?;
-    text.extend_from_slice(b"\n")
+    append_words(address, old, new, text)
 }
 
 // The line of a turn that changed a word.
@@ -97,8 +105,8 @@ fn append_change(
     }
 }
 
-/// A watchpoint with the word that RAM has now.
-pub fn look(point: Watchpoint, board: &mut Board) -> Watchpoint
+// A watchpoint with the word that RAM has now.
+pub(crate) fn look(point: Watchpoint, board: &mut Board) -> Watchpoint
     ensures point { (now : BoardModel) → IsBoard board.old.cores board.old.bus now → result ≡ seen now.world.ram point }
     ensures board { (now : BoardModel) → IsBoard board.old.cores board.old.bus now → IsBoard board.new.cores board.new.bus now }
     ensures config { board.new.config ≡ board.old.config }
@@ -127,7 +135,76 @@ pub(crate) fn append_changes(
     Ok(())
 }
 
-// Each watchpoint sees its word as it is now.
+// Whether this is the address.
+fn is_at(word: Option<u32>, address: u32) -> bool
+    ensures { result ≡ is_at word address }
+{
+    match word {
+        None => false,
+        Some(word) => word == address,
+    }
+}
+
+fn append_stored(
+    made: MadeTurn,
+    address: u32,
+    old: u32,
+    new: u32,
+    text: &mut Vec<u8>,
+) -> Result<(), AllocError>
+    ensures { OnOk result (text.new.items ≡ text.old.items ++ stored_line made address old new) }
+{
+    text.extend_from_slice(b"store turn ")?;
+    append_decimal(made.turn, text)?;
+    text.extend_from_slice(b" core ")?;
+    append_decimal(u64::from(made.core), text)?;
+    append_words(address, old, new, text)
+}
+
+// The line of a turn that stored to a word.
+fn append_store(
+    made: MadeTurn,
+    address: u32,
+    old: Option<u32>,
+    new: Option<u32>,
+    text: &mut Vec<u8>,
+) -> Result<(), AllocError>
+    ensures { OnOk result (text.new.items ≡ text.old.items ++ store_words made address old new) }
+{
+    match old {
+        None => Ok(()),
+        Some(old) => match new {
+            None => Ok(()),
+            Some(new) => {
+                if is_at(made.stored, address) {
+                    append_stored(made, address, old, new, text)
+                } else {
+                    Ok(())
+                }
+            }
+        },
+    }
+}
+
+// The lines of the store points to whose words a turn stored.
+pub(crate) fn append_stores(
+    points: &[Watchpoint],
+    made: MadeTurn,
+    board: &mut Board,
+    text: &mut Vec<u8>,
+) -> Result<(), AllocError>
+    ensures text { OnOk result ((now : BoardModel) → IsBoard board.old.cores board.old.bus now → text.new.items ≡ text.old.items ++ flat_map (seen_store made now.world.ram) points.now) }
+    ensures board { (now : BoardModel) → IsBoard board.old.cores board.old.bus now → IsBoard board.new.cores board.new.bus now }
+    ensures config { board.new.config ≡ board.old.config }
+{
+    for point in points {
+        let word = board.word(point.address);
+        append_store(made, point.address, point.word, word, text)?;
+    }
+    Ok(())
+}
+
+// Each of the points sees its word as it is now.
 pub(crate) fn look_at_all(points: &mut [Watchpoint], board: &mut Board)
     ensures points { (now : BoardModel) → IsBoard board.old.cores board.old.bus now → points.new ≡ map (seen now.world.ram) points.old }
     ensures board { (now : BoardModel) → IsBoard board.old.cores board.old.bus now → IsBoard board.new.cores board.new.bus now }

@@ -8,12 +8,12 @@ use Rattle.std.proofs.lemmas.List.Elements.{All-nil, All-cons}
 use Rattle.std.proofs.lemmas.Bool.Decides.{nat_tests}
 use Rattle.or_words.specs.declared.Config.{Config}
 use Rattle.or_script.specs.declared.command.Command.{Command}
-use Rattle.or_script.specs.declared.command.Command.TheVariants.{Nothing, Go, Turn, Break, Watch, Registers, Memory, Lines, Last}
+use Rattle.or_script.specs.declared.command.Command.TheVariants.{Nothing, Go, Turn, Break, Watch, Stores, Registers, Memory, Lines, Last}
 use Rattle.or_script.specs.declared.command.LineFault.{LineFault}
 use Rattle.or_script.specs.declared.command.LineFault.TheVariants.{BadCommand, OutOfRange}
 use Rattle.or_script.specs.declared.script.Points.{Points}
 use Rattle.or_script.specs.Operands.{number_of, core_number}
-use Rattle.or_script.specs.Command.{in_range, is_word, with_one, with_two, turn_line, last_line, watch_line, registers_line, lines_line, break_line, memory_line, no_operand, one_operand, two_operands, words_of, form_of, command_of}
+use Rattle.or_script.specs.Command.{in_range, is_word, with_one, with_two, is_word_of_ram, is_comment, turn_line, last_line, watch_line, stores_line, registers_line, lines_line, break_line, memory_line, no_operand, one_operand, two_operands, words_of, form_of, command_of}
 use Rattle.or_script.specs.Script.{no_points, points_after, with_room, unless_full, command_at, onto, after_line, script_from, script_of}
 use Rattle.or_script.specs.Last.{HasFewTurns}
 
@@ -49,20 +49,20 @@ none_by false false = tt
 few_none : (name : List ℕ) → Few (no_operand name)
 few_none name = none_by (bytes_eq name (codes "go")) (bytes_eq name [])
 
-operand_by : (config : Config) (word : List ℕ) (turn last watch registers lines : Bool)
-    → Few (cond turn (with_one (number_of word) turn_line) (cond last (with_one (number_of word) last_line) (cond watch (with_one (number_of word) (watch_line config))
-    (cond registers (with_one (core_number word) (registers_line config)) (cond lines (with_one (core_number word) (lines_line config)) (Err BadCommand))))))
-operand_by config word true last watch registers lines = few_one (number_of word) turn_line (λ n. few_range (leb 1 n && is_word n) (Turn n) (λ _. tt))
-operand_by config word false true watch registers lines = few_one (number_of word) last_line few_last
-operand_by config word false false true registers lines =
-    few_one (number_of word) (watch_line config) (λ n. few_range (n % 4 == 0 && is_word n && nat_lt n (ram_bytes config)) (Watch n) (λ _. tt))
-operand_by config word false false false true lines = few_one (core_number word) (registers_line config) (λ n. few_range (nat_lt n config.cores) (Registers n) (λ _. tt))
-operand_by config word false false false false true = few_one (core_number word) (lines_line config) (λ n. few_range (nat_lt n config.cores) (Lines n) (λ _. tt))
-operand_by config word false false false false false = tt
+operand_by : (config : Config) (word : List ℕ) (turn last watch stores registers lines : Bool)
+    → Few (cond turn (with_one (number_of word) turn_line) (cond last (with_one (number_of word) last_line) (cond watch (with_one (number_of word) (watch_line config)) (cond stores (with_one (number_of word) (stores_line config))
+    (cond registers (with_one (core_number word) (registers_line config)) (cond lines (with_one (core_number word) (lines_line config)) (Err BadCommand)))))))
+operand_by config word true last watch stores registers lines = few_one (number_of word) turn_line (λ n. few_range (leb 1 n && is_word n) (Turn n) (λ _. tt))
+operand_by config word false true watch stores registers lines = few_one (number_of word) last_line few_last
+operand_by config word false false true stores registers lines = few_one (number_of word) (watch_line config) (λ n. few_range (is_word_of_ram config n) (Watch n) (λ _. tt))
+operand_by config word false false false true registers lines = few_one (number_of word) (stores_line config) (λ n. few_range (is_word_of_ram config n) (Stores n) (λ _. tt))
+operand_by config word false false false false true lines = few_one (core_number word) (registers_line config) (λ n. few_range (nat_lt n config.cores) (Registers n) (λ _. tt))
+operand_by config word false false false false false true = few_one (core_number word) (lines_line config) (λ n. few_range (nat_lt n config.cores) (Lines n) (λ _. tt))
+operand_by config word false false false false false false = tt
 
 few_operand : (config : Config) (name word : List ℕ) → Few (one_operand config name word)
 few_operand config name word =
-    operand_by config word (bytes_eq name (codes "turn")) (bytes_eq name (codes "last")) (bytes_eq name (codes "watch")) (bytes_eq name (codes "regs")) (bytes_eq name (codes "lines"))
+    operand_by config word (bytes_eq name (codes "turn")) (bytes_eq name (codes "last")) (bytes_eq name (codes "watch")) (bytes_eq name (codes "stores")) (bytes_eq name (codes "regs")) (bytes_eq name (codes "lines"))
 
 operands_by : (config : Config) (first second : List ℕ) (break memory : Bool)
     → Few (cond break (with_two (core_number first) (number_of second) (break_line config)) (cond memory (with_two (number_of first) (number_of second) (memory_line config)) (Err BadCommand)))
@@ -85,11 +85,12 @@ few_form config (name ∷ first ∷ second ∷ third ∷ others) = tt
 
 few_command : (config : Config) (line : List ℕ) → Few (command_of config line)
 unfolding command_of
-few_command config line = few_form config (words_of line)
+few_command config line = few_if (is_comment line) (Ok Nothing) (form_of config (words_of line)) tt (few_form config (words_of line))
 
 few_room : (points : Points) (command : Command) → HasFewTurns command → Few (with_room points command)
 few_room points (Break core pc) few = few_if (nat_lt points.breaks 16) (Ok (Break core pc)) (Err OutOfRange) tt tt
 few_room points (Watch address) few = few_if (nat_lt points.watches 16) (Ok (Watch address)) (Err OutOfRange) tt tt
+few_room points (Stores address) few = few_if (nat_lt points.stores 16) (Ok (Stores address)) (Err OutOfRange) tt tt
 few_room points Nothing few = tt
 few_room points Go few = tt
 few_room points (Turn n) few = tt

@@ -3,7 +3,7 @@ use Rattle.std.proofs.Common.{◌≡◌, refl, false, Ok, Err}
 use Rattle.std.specs.Prelude.{codes}
 use Rattle.or_text.specs.Numerals.{size_of}
 use Rattle.or_words.specs.declared.Config.{Config}
-use Rattle.or_script.specs.declared.command.Command.TheVariants.{Nothing, Turn, Break, Memory}
+use Rattle.or_script.specs.declared.command.Command.TheVariants.{Nothing, Turn, Break, Stores, Memory}
 use Rattle.or_script.specs.declared.command.LineFault.TheVariants.{BadCommand, OutOfRange}
 use Rattle.or_script.specs.Command.{command_of}
 use Rattle.or_script.specs.Script.{script_of, command_at}
@@ -19,6 +19,22 @@ turn_one = refl
 no_line : command_of board (codes "") ≡ Ok Nothing
 unfolding command_of size_of
 no_line = refl
+
+comment : command_of board (codes "# turn 1") ≡ Ok Nothing
+unfolding command_of
+comment = refl
+
+blank_first : command_of board (codes " #") ≡ Err BadCommand
+unfolding command_of size_of
+blank_first = refl
+
+stores_of_a_word : command_of board (codes "stores 0x1020") ≡ Ok (Stores 4128)
+unfolding command_of size_of
+stores_of_a_word = refl
+
+stores_past_the_end : command_of board (codes "stores 1048576") ≡ Err OutOfRange
+unfolding command_of size_of
+stores_past_the_end = refl
 
 break_anywhere : command_of board (codes "break 1 3") ≡ Ok (Break 1 3)
 unfolding command_of size_of

@@ -1,11 +1,11 @@
 -- The forms of a line.
-use Rattle.std.specs.Prelude.{ℕ, ◌+◌, ◌*◌, ◌%◌, ◌^◌, ◌==◌, nat_lt, nat_le, if◌then◌else◌, Bool, ◌&&◌, List, [], ◌∷◌, codes, Option, Some, None, Result, Ok, Err}
+use Rattle.std.specs.Prelude.{ℕ, ◌+◌, ◌*◌, ◌%◌, ◌^◌, ◌==◌, nat_lt, nat_le, if◌then◌else◌, Bool, false, ◌&&◌, List, [], ◌∷◌, codes, Option, Some, None, Result, Ok, Err}
 use Rattle.std.specs.List.{slice_split}
 use Rattle.std.specs.Str.{bytes_eq}
 use Rattle.or_words.specs.declared.Config.{Config}
 use Rattle.or_words.specs.Settings.{ram_bytes}
 use Rattle.or_script.specs.declared.command.Command.{Command}
-use Rattle.or_script.specs.declared.command.Command.TheVariants.{Nothing, Go, Turn, Break, Watch, Registers, Memory, Lines, Last}
+use Rattle.or_script.specs.declared.command.Command.TheVariants.{Nothing, Go, Turn, Break, Watch, Stores, Registers, Memory, Lines, Last}
 use Rattle.or_script.specs.declared.command.LineFault.{LineFault}
 use Rattle.or_script.specs.declared.command.LineFault.TheVariants.{BadCommand, OutOfRange}
 use Rattle.or_script.specs.Operands.{number_of, core_number}
@@ -24,9 +24,15 @@ turn_line n = in_range (nat_le 1 n && is_word n) (Turn n)
 abbrev pub last_line : ℕ → Result Command LineFault
 last_line n = in_range (nat_le 1 n && nat_le n 64) (Last n)
 
--- a word of RAM
+-- the address of a word of RAM
+abbrev pub is_word_of_ram : Config → ℕ → Bool
+is_word_of_ram config address = address % 4 == 0 && is_word address && nat_lt address (ram_bytes config)
+
 abbrev pub watch_line : Config → ℕ → Result Command LineFault
-watch_line config address = in_range (address % 4 == 0 && is_word address && nat_lt address (ram_bytes config)) (Watch address)
+watch_line config address = in_range (is_word_of_ram config address) (Watch address)
+
+abbrev pub stores_line : Config → ℕ → Result Command LineFault
+stores_line config address = in_range (is_word_of_ram config address) (Stores address)
 
 abbrev pub registers_line : Config → ℕ → Result Command LineFault
 registers_line config core = in_range (nat_lt core config.cores) (Registers core)
@@ -63,9 +69,10 @@ one_operand config name word =
     if bytes_eq name (codes "turn") then with_one (number_of word) turn_line
     else (if bytes_eq name (codes "last") then with_one (number_of word) last_line
     else (if bytes_eq name (codes "watch") then with_one (number_of word) (watch_line config)
+    else (if bytes_eq name (codes "stores") then with_one (number_of word) (stores_line config)
     else (if bytes_eq name (codes "regs") then with_one (core_number word) (registers_line config)
     else (if bytes_eq name (codes "lines") then with_one (core_number word) (lines_line config)
-    else Err BadCommand))))
+    else Err BadCommand)))))
 
 abbrev pub two_operands : Config → List ℕ → List ℕ → List ℕ → Result Command LineFault
 two_operands config name first second =
@@ -84,6 +91,11 @@ form_of config (name ∷ word ∷ []) = one_operand config name word
 form_of config (name ∷ first ∷ second ∷ []) = two_operands config name first second
 form_of config (name ∷ first ∷ second ∷ third ∷ others) = Err BadCommand
 
--- the command of a line
+-- a line that begins with a number sign
+abbrev pub is_comment : List ℕ → Bool
+is_comment [] = false
+is_comment (c ∷ cs) = c == 35
+
+-- the command of a line; a comment does nothing
 unfoldable pub command_of : Config → List ℕ → Result Command LineFault
-command_of config line = form_of config (words_of line)
+command_of config line = if is_comment line then Ok Nothing else form_of config (words_of line)

@@ -3,7 +3,7 @@ use Rattle.std.specs.Prelude.{◌≡◌, ℕ, ◌+◌, ◌≤◌, ◌==◌, nat_
 use Rattle.std.specs.List.{slice_split}
 use Rattle.or_words.specs.declared.Config.{Config}
 use Rattle.or_script.specs.declared.command.Command.{Command}
-use Rattle.or_script.specs.declared.command.Command.TheVariants.{Nothing, Go, Turn, Break, Watch, Registers, Memory, Lines, Last}
+use Rattle.or_script.specs.declared.command.Command.TheVariants.{Nothing, Go, Turn, Break, Watch, Stores, Registers, Memory, Lines, Last}
 use Rattle.or_script.specs.declared.command.LineFault.{LineFault}
 use Rattle.or_script.specs.declared.command.LineFault.TheVariants as line_fault
 use Rattle.or_script.specs.declared.fault.ScriptFault.{ScriptFault}
@@ -12,12 +12,13 @@ use Rattle.or_script.specs.declared.script.Points.{Points}
 use Rattle.or_script.specs.Command.{command_of}
 
 abbrev pub no_points : Points
-no_points = record { breaks = 0; watches = 0 }
+no_points = record { breaks = 0; watches = 0; stores = 0 }
 
 -- the points with those of one more command
 abbrev pub points_after : Points → Command → Points
-points_after points (Break core pc) = record { breaks = points.breaks + 1; watches = points.watches }
-points_after points (Watch address) = record { breaks = points.breaks; watches = points.watches + 1 }
+points_after points (Break core pc) = record points { breaks = points.breaks + 1 }
+points_after points (Watch address) = record points { watches = points.watches + 1 }
+points_after points (Stores address) = record points { stores = points.stores + 1 }
 points_after points Nothing = points
 points_after points Go = points
 points_after points (Turn n) = points
@@ -27,12 +28,13 @@ points_after points (Lines core) = points
 points_after points (Last n) = points
 
 abbrev pub AreFew : Points → Type 0
-AreFew points = (points.breaks ≤ 16) × (points.watches ≤ 16)
+AreFew points = (points.breaks ≤ 16) × ((points.watches ≤ 16) × (points.stores ≤ 16))
 
--- there is room for 16 breakpoints and for 16 watchpoints
+-- there is room for 16 points of each kind
 abbrev pub with_room : Points → Command → Result Command LineFault
 with_room points (Break core pc) = if nat_lt points.breaks 16 then Ok (Break core pc) else Err line_fault.OutOfRange
 with_room points (Watch address) = if nat_lt points.watches 16 then Ok (Watch address) else Err line_fault.OutOfRange
+with_room points (Stores address) = if nat_lt points.stores 16 then Ok (Stores address) else Err line_fault.OutOfRange
 with_room points Nothing = Ok Nothing
 with_room points Go = Ok Go
 with_room points (Turn n) = Ok (Turn n)

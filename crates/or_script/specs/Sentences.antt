@@ -5,5 +5,5 @@ use Rattle.or_script.specs.declared.fault.ScriptFault.TheVariants.{BadCommand, O
 
 abbrev pub script_sentence : ScriptFault → List ℕ
 script_sentence (BadCommand line) = codes "the line has none of the forms of a command"
-script_sentence (OutOfRange line) = codes "a core, an address or a number is out of its range, or it is a 17th breakpoint or watchpoint"
+script_sentence (OutOfRange line) = codes "a core, an address or a number is out of its range, or it is a 17th breakpoint, watchpoint or store point"
 script_sentence NoMemory = codes "the system gave no more memory"

@@ -1,7 +1,7 @@
 //! The forms of a line.
 ghost use Rattle.std.specs.Prelude.{◌≡◌, ◌≤◌, ◌<◌, ◌^◌, nat_lt, true, IfSome, [], ◌∷◌};
 ghost use Rattle.or_words.specs.Settings.{ram_bytes};
-ghost use Rattle.or_script.specs.Command.{turn_line, last_line, watch_line, registers_line, lines_line, break_line, memory_line, with_one, with_two, no_operand, one_operand, two_operands, form_of, command_of, words_of};
+ghost use Rattle.or_script.specs.Command.{is_word_of_ram, turn_line, last_line, watch_line, stores_line, registers_line, lines_line, break_line, memory_line, with_one, with_two, no_operand, one_operand, two_operands, form_of, command_of, words_of};
 
 use crate::cutting::cut;
 use crate::operands::{core_number, number};
@@ -10,9 +10,9 @@ use or_words::Config;
 /// What a line of a script tells the debugger to do.
 #[derive(Clone, Copy, Debug, PartialEq, Eq)]
 pub enum Command {
-    /// Nothing: the line is empty.
+    /// Nothing: the line is empty or begins with `#`.
     Nothing,
-    /// `go`: follow turns until a breakpoint or watchpoint is hit or none is left.
+    /// `go`: follow turns until a point is hit or none is left.
     Go,
     /// `turn N`: follow so many turns, 1 to 4294967295, or as many as are left.
     Turn { turns: u32 },
@@ -20,6 +20,8 @@ pub enum Command {
     Break { core: u32, pc: u32 },
     /// `watch ADDR`: from now on hit where a turn changed the word of RAM at the address, a multiple of four.
     Watch { address: u32 },
+    /// `stores ADDR`: from now on hit where a turn stores to the word of RAM at the address, a multiple of four.
+    Stores { address: u32 },
     /// `regs C`: show the core's block.
     Registers { core: u32 },
     /// `mem ADDR N`: show so many words, 1 to 256, of RAM from an address on, a multiple of four.
@@ -35,7 +37,7 @@ pub enum Command {
 pub enum LineFault {
     /// The line has none of the forms.
     BadCommand,
-    /// A number is out of its range, or there is a breakpoint or watchpoint too many.
+    /// A number is out of its range, or there is a breakpoint, a watchpoint or a store point too many.
     OutOfRange,
 }
 
@@ -54,6 +56,14 @@ fn is_core(config: &Config, core: u64) -> bool
     ensures word { result ≡ true → core < 2 ^ 32 }
 {
     core < u64::from(config.cores)
+}
+
+// Whether an address is that of a word of RAM.
+fn is_word_of_ram(config: &Config, address: u64) -> bool
+    ensures value { result ≡ is_word_of_ram config.now address }
+    ensures word { result ≡ true → address < 2 ^ 32 }
+{
+    address % 4 == 0 && address < TOO_LARGE && address < ram_bytes(config)
 }
 
 fn turn_line(number: Option<u64>) -> Result<Command, LineFault>
@@ -96,8 +106,25 @@ fn watch_line(config: &Config, number: Option<u64>) -> Result<Command, LineFault
     match number {
         None => Err(LineFault::BadCommand),
         Some(address) => {
-            if address % 4 == 0 && address < TOO_LARGE && address < ram_bytes(config) {
+            if is_word_of_ram(config, address) {
                 Ok(Command::Watch {
+                    address: address as u32,
+                })
+            } else {
+                Err(LineFault::OutOfRange)
+            }
+        }
+    }
+}
+
+fn stores_line(config: &Config, number: Option<u64>) -> Result<Command, LineFault>
+    ensures { result ≡ with_one number (stores_line config.now) }
+{
+    match number {
+        None => Err(LineFault::BadCommand),
+        Some(address) => {
+            if is_word_of_ram(config, address) {
+                Ok(Command::Stores {
                     address: address as u32,
                 })
             } else {
@@ -204,6 +231,8 @@ fn one_operand(config: &Config, name: &[u8], word: &[u8]) -> Result<Command, Lin
         last_line(number(word))
     } else if name == b"watch".as_slice() {
         watch_line(config, number(word))
+    } else if name == b"stores".as_slice() {
+        stores_line(config, number(word))
     } else if name == b"regs".as_slice() {
         registers_line(config, core_number(word))
     } else if name == b"lines".as_slice() {
@@ -258,16 +287,27 @@ fn operands(config: &Config, name: &[u8], text: &[u8]) -> Result<Command, LineFa
     }
 }
 
-/// The command of a line: a name and its operands, parted by one blank each; an empty line does nothing.
+// The command of a line that is no comment.
+fn read_form(config: &Config, line: &[u8]) -> Result<Command, LineFault>
+    ensures { result ≡ form_of config.now (words_of line.now) }
+{
+    let (name, more) = cut(b' ', line);
+    match more {
+        None => no_operand(name),
+        Some(text) => operands(config, name, text),
+    }
+}
+
+/// The command of a line: a name and its operands, parted by one blank each; an empty line and one that begins with `#` do
+/// nothing.
 ///
 /// Errors: BadCommand where the line has none of the forms, else OutOfRange where a number is out of its range.
 #[tactic(auto, unfolding(crate::specs::Command::command_of))]
 pub fn read_line(config: &Config, line: &[u8]) -> Result<Command, LineFault>
     ensures { result ≡ command_of config.now line.now }
 {
-    let (name, more) = cut(b' ', line);
-    match more {
-        None => no_operand(name),
-        Some(text) => operands(config, name, text),
+    match line {
+        [b'#', ..] => Ok(Command::Nothing),
+        _ => read_form(config, line),
     }
 }

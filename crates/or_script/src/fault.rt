@@ -14,7 +14,7 @@ pub enum ScriptFault {
     /// The line has none of the forms.
     #[error("line {line}: bad command")]
     BadCommand { line: u32 },
-    /// A number is out of its range, or the line gives a 17th breakpoint or watchpoint.
+    /// A number is out of its range, or the line gives a 17th breakpoint, watchpoint or store point.
     #[error("line {line}: out of range")]
     OutOfRange { line: u32 },
     /// Memory ran out.
@@ -53,7 +53,7 @@ impl ScriptFault {
                 "the line has none of the forms of a command",
             ),
             ScriptFault::OutOfRange { .. } => Sentence::plain(
-                "a core, an address or a number is out of its range, or it is a 17th breakpoint or watchpoint",
+                "a core, an address or a number is out of its range, or it is a 17th breakpoint, watchpoint or store point",
             ),
             ScriptFault::NoMemory => Sentence::plain("the system gave no more memory"),
         }

@@ -11,11 +11,12 @@ use crate::fault::ScriptFault;
 use or_words::Config;
 use std::alloc::Global;
 
-/// How many breakpoints and watchpoints the lines so far give.
+/// How many breakpoints, watchpoints and store points the lines so far give.
 #[derive(Clone, Copy, Debug, PartialEq, Eq)]
 pub struct Points {
     pub breaks: u32,
     pub watches: u32,
+    pub stores: u32,
 }
 
 const MOST_POINTS: u32 = 16;
@@ -28,11 +29,15 @@ pub fn add_point(points: Points, command: Command) -> Points
     match command {
         Command::Break { .. } => Points {
             breaks: points.breaks + 1,
-            watches: points.watches,
+            ..points
         },
         Command::Watch { .. } => Points {
-            breaks: points.breaks,
             watches: points.watches + 1,
+            ..points
+        },
+        Command::Stores { .. } => Points {
+            stores: points.stores + 1,
+            ..points
         },
         _ => points,
     }
@@ -58,6 +63,13 @@ fn with_room(points: Points, command: Command) -> Result<Command, LineFault>
                 Err(LineFault::OutOfRange)
             }
         }
+        Command::Stores { .. } => {
+            if points.stores < MOST_POINTS {
+                Ok(command)
+            } else {
+                Err(LineFault::OutOfRange)
+            }
+        }
         _ => Ok(command),
     }
 }
@@ -65,7 +77,7 @@ fn with_room(points: Points, command: Command) -> Result<Command, LineFault>
 /// The command of a line behind others that give so many points.
 ///
 /// Errors: BadCommand where the line has none of the forms, else OutOfRange where a number is out of its range or the line
-/// gives a 17th breakpoint or watchpoint.
+/// gives a 17th breakpoint, watchpoint or store point.
 #[tactic(auto, unfolding(crate::specs::Script::command_at))]
 pub fn command_at(config: &Config, points: Points, line: &[u8]) -> Result<Command, LineFault>
     ensures is { result ≡ command_at config.now points line.now }
@@ -99,6 +111,7 @@ pub fn check(config: &Config, script: &[u8]) -> Result<(), ScriptFault>
     let mut points = Points {
         breaks: 0,
         watches: 0,
+        stores: 0,
     };
     let mut number = 1;
     while let Some(text) = rest {
@@ -128,6 +141,7 @@ pub fn commands(alloc: Global, config: &Config, script: &[u8]) -> Result<Vec<Com
     let mut points = Points {
         breaks: 0,
         watches: 0,
+        stores: 0,
     };
     let mut at = 1;
     while let Some(text) = rest {

@@ -1,5 +1,4 @@
 use Rattle.std.proofs.Common.{◌∙◌, ◌++◌, refl, sym, ap, subst}
-use Rattle.std.proofs.lemmas.Result.{on_ok_weaker}
 use Rattle.or_script.specs.declared.command.Command.{Command}
 use Rattle.or_debug.specs.Turns.{turns_made, last_of}
 use Rattle.or_debug.specs.Shown.{made_text}
@@ -7,23 +6,44 @@ use Rattle.or_debug.proofs.Results.{on_ok_both}
 use Rattle.or_debug.proofs.Seen.{still_after}
 use Rattle.or_back.specs.declared.lines.BackCommand.TheVariants.{Plain}
 use Rattle.or_back.specs.Backward.{IsBackAnswered}
-use Rattle.or_back.proofs.Sessions.{watch_told, last_shown}
+use Rattle.or_back.proofs.Sessions.{seen_here, watch_told, store_told, last_shown}
 use Rattle.or_back.proofs.answering.answer_plain.Goals as goal
 
 pub returns-in-Watch-clause-answered : goal.returns-in-Watch-clause-answered
 returns-in-Watch-clause-answered c =
     let history = c.args.history.now in
-    on_ok_weaker c.set_watch.result (λ watches start turns stands.
+    on_ok_both c.set_watch.result (λ points seen start turns stands.
     let told = stands.tells in
-    watch_told start turns history _ c.args.stops.now c.set_watch.new.self c.args.command c.in-Watch.address c.args.text.now.items c.in-Watch.is stands
+    let here = told.here in
+    watch_told start turns history _ c.args.stops.now c.set_watch.new.self c.args.command c.in-Watch.address c.args.text.now.items c.in-Watch.is
+    (seen_here start turns history _ c.args.stops.now c.set_watch.new.self stands
     (record {
       turns_are = told.turns_are;
       follows = told.follows;
       first = told.first;
-      here = still_after start turns history.at history.board.cores c.set_watch.new.board.cores history.board.bus c.set_watch.new.board.bus told.here c.set_watch.ensures.board;
+      here = still_after start turns history.at history.board.cores c.set_watch.new.board.cores history.board.bus c.set_watch.new.board.bus here c.set_watch.ensures.board;
       kept = told.kept;
     })
-    refl c.set_watch.ensures.same watches c.requires) c.set_watch.ensures.watches
+    refl seen)
+    refl (points here.now here.is) c.requires) c.set_watch.ensures.points c.set_watch.ensures.seen
+
+pub returns-in-Stores-clause-answered : goal.returns-in-Stores-clause-answered
+returns-in-Stores-clause-answered c =
+    let history = c.args.history.now in
+    on_ok_both c.set_store.result (λ points seen start turns stands.
+    let told = stands.tells in
+    let here = told.here in
+    store_told start turns history _ c.args.stops.now c.set_store.new.self c.args.command c.in-Stores.address c.args.text.now.items c.in-Stores.is
+    (seen_here start turns history _ c.args.stops.now c.set_store.new.self stands
+    (record {
+      turns_are = told.turns_are;
+      follows = told.follows;
+      first = told.first;
+      here = still_after start turns history.at history.board.cores c.set_store.new.board.cores history.board.bus c.set_store.new.board.bus here c.set_store.ensures.board;
+      kept = told.kept;
+    })
+    refl seen)
+    refl (points here.now here.is) c.requires) c.set_store.ensures.points c.set_store.ensures.seen
 
 pub returns-in-Last-clause-answered : goal.returns-in-Last-clause-answered
 returns-in-Last-clause-answered c =

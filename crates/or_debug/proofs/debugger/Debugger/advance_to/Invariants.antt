@@ -8,8 +8,7 @@ invariant-loop-self l = record {
   reaches : (start : Board) → CanFollow start l.turns → Reaches start l.turns l.initial.self.turn l.initial.self.last l.initial.board.cores l.initial.board.bus
       → Reaches start l.turns l.self.turn l.self.last l.board.cores l.board.bus;
   turn : l.initial.self.turn ≤ l.end → l.self.turn ≤ l.end;
-  breaks : l.self.breaks.items ≡ l.initial.self.breaks.items;
-  watches : l.self.watches.items ≡ l.initial.self.watches.items;
+  stops : l.self.stops ≡ l.initial.self.stops;
   config : l.board.config ≡ l.initial.board.config;
 }
 
