@@ -39,12 +39,17 @@ stands_twice word [] = false
 stands_twice word (first ∷ others) =
     if bytes_eq first word then list_any (λ other. bytes_eq other word) others else stands_twice word others
 
+-- the options that set up a board
+abbrev pub is_board_option : List ℕ → Bool
+is_board_option word =
+    bytes_eq word (codes "--cores") || (bytes_eq word (codes "--budget") || (bytes_eq word (codes "--ram") || bytes_eq word (codes "--pic")))
+
 -- the options of a command
 abbrev pub is_option : List ℕ → List ℕ → Bool
 is_option verb word =
-    if bytes_eq verb (codes "run") then
-    bytes_eq word (codes "--cores") || (bytes_eq word (codes "--budget") || (bytes_eq word (codes "--ram")
-    || (bytes_eq word (codes "--pic") || (bytes_eq word (codes "--stay") || bytes_eq word (codes "--status"))))) else
+    if bytes_eq verb (codes "run") then is_board_option word || (bytes_eq word (codes "--stay") || bytes_eq word (codes "--status")) else
+    if bytes_eq verb (codes "hunt") then is_board_option word || (bytes_eq word (codes "--seed") || bytes_eq word (codes "--tries")) else
+    if bytes_eq verb (codes "asm") then bytes_eq word (codes "--symbols") else
     if bytes_eq verb (codes "back") then bytes_eq word (codes "--every") else
     if bytes_eq verb (codes "bench") then bytes_eq word (codes "--stay") else
     if bytes_eq verb (codes "race") then bytes_eq word (codes "--locks") else

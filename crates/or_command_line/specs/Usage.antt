@@ -26,30 +26,39 @@ abbrev pub with_report : List ℕ → List (List ℕ) → SoFar → SoFar
 with_report verb (image ∷ input ∷ schedule ∷ report ∷ others) so_far = report_apart verb image input schedule report so_far
 with_report verb _ so_far = so_far
 
--- a run also writes the schedule
-unfoldable pub schedule_apart : List ℕ → List ℕ → List ℕ → SoFar → SoFar
-schedule_apart image input schedule so_far =
-    then_apart (codes "run") schedule input (codes "INPUT and SCHED")
-    (then_apart (codes "run") schedule image (codes "IMAGE and SCHED") so_far)
+-- a run and a hunt also write the schedule
+unfoldable pub schedule_apart : List ℕ → List ℕ → List ℕ → List ℕ → SoFar → SoFar
+schedule_apart verb image input schedule so_far =
+    then_apart verb schedule input (codes "INPUT and SCHED")
+    (then_apart verb schedule image (codes "IMAGE and SCHED") so_far)
 
-abbrev pub with_schedule : List (List ℕ) → SoFar → SoFar
-with_schedule (image ∷ input ∷ schedule ∷ others) so_far = schedule_apart image input schedule so_far
-with_schedule _ so_far = so_far
+abbrev pub with_schedule : List ℕ → List (List ℕ) → SoFar → SoFar
+with_schedule verb (image ∷ input ∷ schedule ∷ others) so_far = schedule_apart verb image input schedule so_far
+with_schedule verb _ so_far = so_far
 
--- `IMAGE INPUT SCHED REPORT [--cores N] [--budget N] [--ram N] [--pic latched] [--stay N] [--status]`
-abbrev pub run_words : List (List ℕ) → SoFar
-run_words words =
-    then_flag (codes "--status")
-    (then_option (codes "run") (codes "--stay") (Number 1 4096)
-    (then_option (codes "run") (codes "--pic") Latched
-    (then_option (codes "run") (codes "--ram") (Number 1 256)
-    (then_option (codes "run") (codes "--budget") (Number 1 67108864)
-    (then_option (codes "run") (codes "--cores") (Number 1 8)
-    (with_schedule words (with_report (codes "run") words
-    (then_file (codes "run") (codes "REPORT") (recorded_words (codes "run") words)))))))))
+-- `IMAGE INPUT SCHED REPORT [--cores N] [--budget N] [--ram N] [--pic latched]`
+abbrev pub board_words : List ℕ → List (List ℕ) → SoFar
+board_words verb words =
+    then_option verb (codes "--pic") Latched
+    (then_option verb (codes "--ram") (Number 1 256)
+    (then_option verb (codes "--budget") (Number 1 67108864)
+    (then_option verb (codes "--cores") (Number 1 8)
+    (with_schedule verb words (with_report verb words
+    (then_file verb (codes "REPORT") (recorded_words verb words)))))))
 
+-- with `[--stay N] [--status]`
 abbrev pub run_usage : List (List ℕ) → List ℕ
-run_usage words = then_end (codes "run") words (run_words words)
+run_usage words =
+    then_end (codes "run") words
+    (then_flag (codes "--status")
+    (then_option (codes "run") (codes "--stay") (Number 1 4096) (board_words (codes "run") words)))
+
+-- with `[--seed N] [--tries N]`
+abbrev pub hunt_usage : List (List ℕ) → List ℕ
+hunt_usage words =
+    then_end (codes "hunt") words
+    (then_option (codes "hunt") (codes "--tries") (Number 1 1000000)
+    (then_option (codes "hunt") (codes "--seed") (Number 0 4293967295) (board_words (codes "hunt") words)))
 
 -- `IMAGE INPUT SCHED REPORT`
 abbrev pub replay_usage : List (List ℕ) → List ℕ
@@ -77,7 +86,7 @@ race_usage words = then_end (codes "race") words (then_flag (codes "--locks") (r
 abbrev pub recorded_usage : List ℕ → List (List ℕ) → List ℕ
 recorded_usage verb words = then_end verb words (recorded_words verb words)
 
--- `SRC IMAGE`
+-- `SRC IMAGE [--symbols]`
 unfoldable pub image_apart : List ℕ → List ℕ → SoFar → SoFar
 image_apart source image so_far = then_apart (codes "asm") image source (codes "SRC and IMAGE") so_far
 
@@ -88,8 +97,9 @@ with_image _ so_far = so_far
 abbrev pub asm_usage : List (List ℕ) → List ℕ
 asm_usage words =
     then_end (codes "asm") words
+    (then_flag (codes "--symbols")
     (with_image words
-    (then_file (codes "asm") (codes "IMAGE") (then_file (codes "asm") (codes "SRC") (start words))))
+    (then_file (codes "asm") (codes "IMAGE") (then_file (codes "asm") (codes "SRC") (start words)))))
 
 -- `IMAGE`
 abbrev pub dis_usage : List (List ℕ) → List ℕ
@@ -117,6 +127,7 @@ bench_usage words =
 abbrev pub program_usage : List ℕ → List (List ℕ) → List ℕ
 program_usage verb words =
     if bytes_eq verb (codes "run") then run_usage words else
+    if bytes_eq verb (codes "hunt") then hunt_usage words else
     if bytes_eq verb (codes "bench") then bench_usage words else
     if bytes_eq verb (codes "gen") then gen_usage words else
     if bytes_eq verb (codes "asm") then asm_usage words else

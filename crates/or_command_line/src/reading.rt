@@ -4,7 +4,7 @@ ghost use Rattle.std.specs.Str.{bytes_eq};
 ghost use Rattle.std.specs.List.{list_any};
 ghost use Rattle.or_text.specs.Sentences.{sentence_text};
 ghost use Rattle.or_command_line.specs.Words.{texts};
-ghost use Rattle.or_command_line.specs.Reading.{shown, fits, begins_with_dash, has_equals, stands_twice, is_option, missing, no_name, no_value, wrong_value, same_name, no_fault, value_of, leftover, then_file, then_input, then_number, then_option, then_flag, then_apart, then_end};
+ghost use Rattle.or_command_line.specs.Reading.{shown, fits, begins_with_dash, has_equals, stands_twice, is_board_option, is_option, missing, no_name, no_value, wrong_value, same_name, no_fault, value_of, leftover, then_file, then_input, then_number, then_option, then_flag, then_apart, then_end};
 
 use crate::names::{is_input, is_name};
 use or_text::numerals::read_decimal;
@@ -79,19 +79,21 @@ fn stands_twice(word: &str, words: &[String]) -> bool
     }
 }
 
+// Whether an option sets up a board.
+fn is_board_option(word: &str) -> bool
+    ensures { result ≡ is_board_option word.now }
+{
+    word == "--cores" || word == "--budget" || word == "--ram" || word == "--pic"
+}
+
 // Whether a command has this option.
 fn is_option(verb: &str, word: &str) -> bool
     ensures { result ≡ is_option verb.now word.now }
 {
     match verb {
-        "run" => {
-            word == "--cores"
-                || word == "--budget"
-                || word == "--ram"
-                || word == "--pic"
-                || word == "--stay"
-                || word == "--status"
-        }
+        "run" => is_board_option(word) || word == "--stay" || word == "--status",
+        "hunt" => is_board_option(word) || word == "--seed" || word == "--tries",
+        "asm" => word == "--symbols",
         "back" => word == "--every",
         "bench" => word == "--stay",
         "race" => word == "--locks",

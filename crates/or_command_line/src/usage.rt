@@ -3,7 +3,7 @@ ghost use Rattle.std.specs.Prelude.{◌≡◌, ◌≤◌, length, codes};
 ghost use Rattle.or_text.specs.Sentences.{sentence_text};
 ghost use Rattle.or_command_line.specs.Words.{texts};
 ghost use Rattle.or_command_line.specs.Reading.{shown, SoFar};
-ghost use Rattle.or_command_line.specs.Usage.{start, image_apart, with_image, recorded_words, report_apart, with_report, schedule_apart, with_schedule, run_words, run_usage, replay_usage, session_words, debug_usage, back_usage, race_usage, recorded_usage, asm_usage, dis_usage, workload_words, gen_usage, bench_usage, program_usage, usage_sentence};
+ghost use Rattle.or_command_line.specs.Usage.{start, image_apart, with_image, recorded_words, report_apart, with_report, schedule_apart, with_schedule, board_words, run_usage, hunt_usage, replay_usage, session_words, debug_usage, back_usage, race_usage, recorded_usage, asm_usage, dis_usage, workload_words, gen_usage, bench_usage, program_usage, usage_sentence};
 
 use crate::reading::{
     Reading, SoFar, Value, then_apart, then_end, then_file, then_flag, then_input, then_number,
@@ -71,45 +71,71 @@ fn with_report<'a>(verb: &'a str, words: &'a [String], so_far: SoFar<'a>) -> SoF
 // A schedule's name differs from these.
 #[tactic(auto, unfolding(crate::specs::Usage::schedule_apart))]
 fn schedule_apart<'a>(
+    verb: &'a str,
     image: &'a str,
     input: &'a str,
     schedule: &'a str,
     so_far: SoFar<'a>,
 ) -> SoFar<'a>
-    ensures { shown result ≡ schedule_apart image.now input.now schedule.now (shown so_far.entry) }
+    ensures { shown result ≡ schedule_apart verb.now image.now input.now schedule.now (shown so_far.entry) }
 {
-    let so_far = then_apart("run", schedule, image, "IMAGE and SCHED", so_far);
-    then_apart("run", schedule, input, "INPUT and SCHED", so_far)
+    let so_far = then_apart(verb, schedule, image, "IMAGE and SCHED", so_far);
+    then_apart(verb, schedule, input, "INPUT and SCHED", so_far)
 }
 
-// A run also writes the schedule.
-fn with_schedule<'a>(words: &'a [String], so_far: SoFar<'a>) -> SoFar<'a>
-    ensures { shown result ≡ with_schedule (texts words.now) (shown so_far.entry) }
+// A run and a hunt also write the schedule.
+fn with_schedule<'a>(verb: &'a str, words: &'a [String], so_far: SoFar<'a>) -> SoFar<'a>
+    ensures { shown result ≡ with_schedule verb.now (texts words.now) (shown so_far.entry) }
 {
     match words {
-        [image, input, schedule, ..] => {
-            schedule_apart(image.as_str(), input.as_str(), schedule.as_str(), so_far)
-        }
+        [image, input, schedule, ..] => schedule_apart(
+            verb,
+            image.as_str(),
+            input.as_str(),
+            schedule.as_str(),
+            so_far,
+        ),
         _ => so_far,
     }
 }
 
-fn run_words(words: &[String]) -> SoFar<'_>
-    ensures { shown result ≡ run_words (texts words.now) }
+// `IMAGE INPUT SCHED REPORT` and the options that set up a board.
+fn board_words<'a>(verb: &'a str, words: &'a [String]) -> SoFar<'a>
+    ensures { shown result ≡ board_words verb.now (texts words.now) }
 {
-    let so_far = then_file("run", "REPORT", recorded_words("run", words));
-    let so_far = with_schedule(words, with_report("run", words, so_far));
-    let so_far = then_option("run", "--cores", CORES, so_far);
+    let so_far = then_file(verb, "REPORT", recorded_words(verb, words));
+    let so_far = with_schedule(verb, words, with_report(verb, words, so_far));
+    let so_far = then_option(verb, "--cores", CORES, so_far);
     let budget = Value::Number {
         low: 1,
         high: 67_108_864,
     };
-    let so_far = then_option("run", "--budget", budget, so_far);
+    let so_far = then_option(verb, "--budget", budget, so_far);
     let ram = Value::Number { low: 1, high: 256 };
-    let so_far = then_option("run", "--ram", ram, so_far);
-    let so_far = then_option("run", "--pic", Value::Latched, so_far);
-    let so_far = then_option("run", "--stay", STAY, so_far);
-    then_flag("--status", so_far)
+    let so_far = then_option(verb, "--ram", ram, so_far);
+    then_option(verb, "--pic", Value::Latched, so_far)
+}
+
+fn run_usage(words: &[String]) -> Sentence<'_>
+    ensures { sentence_text result ≡ run_usage (texts words.now) }
+{
+    let so_far = then_option("run", "--stay", STAY, board_words("run", words));
+    then_end("run", words, then_flag("--status", so_far))
+}
+
+fn hunt_usage(words: &[String]) -> Sentence<'_>
+    ensures { sentence_text result ≡ hunt_usage (texts words.now) }
+{
+    let seed = Value::Number {
+        low: 0,
+        high: 4_293_967_295,
+    };
+    let so_far = then_option("hunt", "--seed", seed, board_words("hunt", words));
+    let tries = Value::Number {
+        low: 1,
+        high: 1_000_000,
+    };
+    then_end("hunt", words, then_option("hunt", "--tries", tries, so_far))
 }
 
 fn replay_usage(words: &[String]) -> Sentence<'_>
@@ -175,7 +201,8 @@ fn asm_usage(words: &[String]) -> Sentence<'_>
     ensures { sentence_text result ≡ asm_usage (texts words.now) }
 {
     let so_far = then_file("asm", "IMAGE", then_file("asm", "SRC", start(words)));
-    then_end("asm", words, with_image(words, so_far))
+    let so_far = then_flag("--symbols", with_image(words, so_far));
+    then_end("asm", words, so_far)
 }
 
 fn dis_usage(words: &[String]) -> Sentence<'_>
@@ -221,7 +248,8 @@ fn program_usage<'a>(verb: &'a str, words: &'a [String]) -> Sentence<'a>
     ensures { sentence_text result ≡ program_usage verb.now (texts words.now) }
 {
     match verb {
-        "run" => then_end("run", words, run_words(words)),
+        "run" => run_usage(words),
+        "hunt" => hunt_usage(words),
         "bench" => bench_usage(words),
         "gen" => gen_usage(words),
         "asm" => asm_usage(words),
