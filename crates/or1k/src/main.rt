@@ -27,10 +27,14 @@ fn is_helped<R: Print>(rt: &R, words: &[String]) -> bool {
     }
 }
 
-// Ends before the top call, with a line on standard error.
-fn end(rt: &HostRuntime, status: u8, line: &str) -> ExitCode {
-    let _ = eprintln!(rt; "or1k: {line}");
+// Ends before the top call, with a line on standard error and a sentence behind it.
+fn end(rt: &HostRuntime, status: u8, line: &str, sentence: &str) -> ExitCode {
+    let _ = eprintln!(rt; "or1k: {line}\n  {sentence}");
     ExitCode::from(status)
+}
+
+fn end_without_memory(rt: &HostRuntime) -> ExitCode {
+    end(rt, 7, "no memory", "the system gave no more memory")
 }
 
 fn main(rt: HostRuntime) -> ExitCode {
@@ -40,15 +44,15 @@ fn main(rt: HostRuntime) -> ExitCode {
         Ok(args) => args,
         Err(error) => {
             return match error.kind() {
-                ErrorKind::OutOfMemory => end(&rt, 7, "no memory"),
-                _ => end(&rt, 13, "arguments"),
+                ErrorKind::OutOfMemory => end_without_memory(&rt),
+                _ => end(&rt, 13, "arguments", "an argument is not valid UTF-8"),
             };
         }
     };
     let _program = args.next();
     for word in args {
         if words.push(word).is_err() {
-            return end(&rt, 7, "no memory");
+            return end_without_memory(&rt);
         }
     }
     if is_only(&words, "--help") {

@@ -3,7 +3,8 @@ use Rattle.std.specs.Prelude.{ℕ, List, Bool, true, false, Option, Some, None, 
 use Rattle.or_host.specs.HostState.{HostState}
 use Rattle.or_command_line.specs.Command.{Shown, command_of}
 use Rattle.or_command_line.specs.Command.Shown.{run, hunt, replay, asm, dis, debug, gen, bench, back, race, prof}
-use Rattle.or_command.specs.Lines.{usage_line}
+use Rattle.or_command_line.specs.Usage.{usage_sentence}
+use Rattle.or_command.specs.Lines.{usage_lines}
 use Rattle.or_command.specs.Said.{SaidLine}
 use Rattle.or_command.specs.Outcomes.{LeavesAll}
 use Rattle.or_command.specs.Answered.{Answers, AnswersBy, IsDecided, IsDecidedBy}
@@ -40,10 +41,10 @@ threaded_command words = of_threads (command_of words)
 abbrev pub lone_command : List (List ℕ) → Option Shown
 lone_command words = of_one_thread (command_of words)
 
--- words that are no command: that is said, and nothing else happens
-pub record IsUsage (old new : HostState) : Type 0 where
+-- words that are no command: that and why is said, and nothing else happens
+pub record IsUsage (words : List (List ℕ)) (old new : HostState) : Type 0 where
   pub left : LeavesAll old new
-  pub said : SaidLine usage_line old new
+  pub said : SaidLine (usage_lines (usage_sentence words)) old new
 
 -- what stands after a command with this status
 abbrev pub CommandEnds : Shown → ℕ → HostState → HostState → Type 0

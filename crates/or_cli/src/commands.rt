@@ -26,7 +26,7 @@ use or_command::{conclude, say_usage};
 use or_command_back::back;
 use or_command_debug::debug;
 use or_command_hunt::hunt;
-use or_command_line::{Command, Hunt, RaceOptions, Recorded, Run, Workload, parse};
+use or_command_line::{Command, Hunt, RaceOptions, Recorded, Run, Workload, explain, parse};
 use or_command_prof::prof;
 use or_command_run::{bench, run, run_status};
 use or_command_source::{asm, dis, generate};
@@ -198,12 +198,12 @@ fn prof_command<H: Host>(alloc: Global, names: &Recorded<'_>, host: &mut H) -> u
     conclude(host, outcome)
 }
 
-// Says that the words are no command.
-fn refuse_words<H: Host>(host: &mut H) -> u8
+// Says that the words are no command, and why.
+fn refuse_words<H: Host>(words: &[String], host: &mut H) -> u8
     ensures status { result ≡ 2 }
-    ensures usage { IsUsage (H.state host.old) (H.state host.new) }
+    ensures usage { IsUsage (texts words.now) (H.state host.old) (H.state host.new) }
 {
-    say_usage(host);
+    say_usage(host, &explain(words));
     2
 }
 
@@ -217,7 +217,7 @@ pub fn top_run<R: Threads + Wait + Sync, H: Host, G: Gate + Sync>(
     gate: &G,
 ) -> u8
     ensures usage { (result ≡ 2) ↔ (threaded_command (texts words.now) ≡ None) }
-    ensures usage_line { threaded_command (texts words.now) ≡ None → IsUsage (H.state host.old) (H.state host.new) }
+    ensures usage_line { threaded_command (texts words.now) ≡ None → IsUsage (texts words.now) (H.state host.old) (H.state host.new) }
     ensures command { IfSome (threaded_command (texts words.now)) (λ command. CommandEnds command result (H.state host.old) (H.state host.new)) }
     ensures complete { IfSome (threaded_command (texts words.now)) (λ command. IsComplete command result (H.state host.old) (H.state host.new)) }
 {
@@ -230,7 +230,7 @@ pub fn top_run<R: Threads + Wait + Sync, H: Host, G: Gate + Sync>(
                 stay,
             },
         ) => bench_command(rt, alloc, &workload, schedule, stay, host, gate),
-        _ => refuse_words(host),
+        _ => refuse_words(words, host),
     }
 }
 
@@ -238,7 +238,7 @@ pub fn top_run<R: Threads + Wait + Sync, H: Host, G: Gate + Sync>(
 /// words are no command of this call. It always returns.
 pub fn top_alone<H: Host>(alloc: Global, words: &[String], host: &mut H) -> u8
     ensures usage { (result ≡ 2) ↔ (lone_command (texts words.now) ≡ None) }
-    ensures usage_line { lone_command (texts words.now) ≡ None → IsUsage (H.state host.old) (H.state host.new) }
+    ensures usage_line { lone_command (texts words.now) ≡ None → IsUsage (texts words.now) (H.state host.old) (H.state host.new) }
     ensures command { IfSome (lone_command (texts words.now)) (λ command. CommandEnds command result (H.state host.old) (H.state host.new)) }
     ensures complete { IfSome (lone_command (texts words.now)) (λ command. IsComplete command result (H.state host.old) (H.state host.new)) }
 {
@@ -264,7 +264,7 @@ pub fn top_alone<H: Host>(alloc: Global, words: &[String], host: &mut H) -> u8
         ) => back_command(alloc, &files, script, every, host),
         Some(Command::Race { files, options }) => race_command(alloc, &files, options, host),
         Some(Command::Prof { files }) => prof_command(alloc, &files, host),
-        _ => refuse_words(host),
+        _ => refuse_words(words, host),
     }
 }
 
@@ -272,7 +272,7 @@ pub fn top_alone<H: Host>(alloc: Global, words: &[String], host: &mut H) -> u8
 /// 3 where the image has a fault, 4 where the recording is refused, 5 where a file was not read, 6 where an output was not
 /// written, 7 for want of memory, 8 where a file is too long, 9 where the source has a fault, 10 where the script has one,
 /// 12 where the symbols of a profiled image have one, 14 where no try of a hunt failed, 15 where all was done, a core failed and `--status` of `run` asks for that.
-/// The line of a status other than 0 and 15 is said.
+/// The line of a status other than 0 and 15 is said, and behind it a sentence for people.
 pub fn top<R: Threads + Wait + Sync, H: Host, G: Gate + Sync>(
     rt: &R,
     alloc: Global,
@@ -281,7 +281,7 @@ pub fn top<R: Threads + Wait + Sync, H: Host, G: Gate + Sync>(
     gate: &G,
 ) -> u8
     ensures usage { (result ≡ 2) ↔ (command_of (texts words.now) ≡ None) }
-    ensures usage_line { command_of (texts words.now) ≡ None → IsUsage (H.state host.old) (H.state host.new) }
+    ensures usage_line { command_of (texts words.now) ≡ None → IsUsage (texts words.now) (H.state host.old) (H.state host.new) }
     ensures command { IfSome (command_of (texts words.now)) (λ command. CommandEnds command result (H.state host.old) (H.state host.new)) }
     ensures complete { IfSome (command_of (texts words.now)) (λ command. IsComplete command result (H.state host.old) (H.state host.new)) }
 {

@@ -5,7 +5,7 @@ use Rattle.or_command.specs.Leaves.{Silent}
 use Rattle.or_command.specs.Writes.{File}
 use Rattle.or_command.specs.Loads.{Load, LoadsAll}
 use Rattle.or_command.specs.Said.{OnlySays, SaidLine}
-use Rattle.or_command.specs.Ends.{FailedCheck, CommandEnd, done, unread, too_long, refused, unwritten, no_memory, status_of, line_of}
+use Rattle.or_command.specs.Ends.{FailedCheck, CommandEnd, done, unread, too_long, refused, unwritten, no_memory, status_of, lines_of}
 use Rattle.or_command.specs.Outcomes.{LeavesAll, AreApart, OutcomeBy, Computes, CommandOutcome}
 use Rattle.or_command.specs.Answered.{AnswersBy, IsDecidedBy, Answers, IsDecided, FinishEnds}
 use Rattle.or_command.proofs.OutcomesLemmas.{concluded_by}
@@ -17,7 +17,7 @@ module _ (loads : List Load) (Verdict : List (List ℕ) → Option FailedCheck �
     (Lacking : HostState → HostState → Type 0) where
   -- a command's work, then its line and its status
   pub answered_by : (end : CommandEnd) (status : ℕ) (a b c : HostState) → (Lacking a b → Lacking a c) → status ≡ status_of end
-      → OutcomeBy loads Verdict Writes Lacking end a b → Silent a b → SaidLine (line_of end) b c → OnlySays b c
+      → OutcomeBy loads Verdict Writes Lacking end a b → Silent a b → SaidLine (lines_of end) b c → OnlySays b c
       → AnswersBy loads Verdict Writes Lacking status a c
   answered_by end status a b c lacking is outcome silent line only =
       record { end = end; status_is = is; runs = concluded_by loads Verdict Writes Lacking end a b c lacking outcome silent line only }
@@ -54,7 +54,7 @@ module _ (loads : List Load) (Verdict : List (List ℕ) → Option FailedCheck �
 module _ (loads : List Load) (verdict : List (List ℕ) → Option FailedCheck) (Writes : List (List ℕ) → List File → List ℕ → Type 0)
     (Lacking : HostState → HostState → Type 0) where
   pub answered : (end : CommandEnd) (status : ℕ) (a b c : HostState) → (Lacking a b → Lacking a c) → status ≡ status_of end
-      → CommandOutcome loads verdict Writes Lacking end a b → Silent a b → SaidLine (line_of end) b c → OnlySays b c
+      → CommandOutcome loads verdict Writes Lacking end a b → Silent a b → SaidLine (lines_of end) b c → OnlySays b c
       → Answers loads verdict Writes Lacking status a c
   answered end status a b c lacking is outcome silent line only =
       answered_by loads (Computes verdict) Writes Lacking end status a b c lacking is outcome silent line only

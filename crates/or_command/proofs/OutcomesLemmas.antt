@@ -13,7 +13,7 @@ use Rattle.or_command.specs.Leaves.{Untouched, NoFault, FaultOf, Silent}
 use Rattle.or_command.specs.Writes.{File, AllHold, IsOther, AllWritten, WriteStopped}
 use Rattle.or_command.specs.Loads.{Load, AreRead, AllRead, StopsLoading}
 use Rattle.or_command.specs.Said.{OnlySays, SaidLine}
-use Rattle.or_command.specs.Ends.{FailedCheck, CommandEnd, done, unread, too_long, refused, unwritten, no_memory, line_of}
+use Rattle.or_command.specs.Ends.{FailedCheck, CommandEnd, done, unread, too_long, refused, unwritten, no_memory, lines_of}
 use Rattle.or_command.specs.Outcomes.{LeavesAll, AreApart, OutcomeBy, RunsBy, Computes, CommandOutcome, CommandRuns}
 use Rattle.or_command.proofs.TellsLemmas.{same_then, told_then, same_then_step, step_then_same, same_then_part, part_then_same, rose_after, untouched_then, no_fault_then}
 use Rattle.or_command.proofs.SaysLemmas.{line_after_silence}
@@ -250,10 +250,10 @@ said_outcome loads Verdict Writes Lacking no_memory a b c lacking outcome bc = l
 -- a command's work, which says nothing, and then its line
 pub concluded_by : (loads : List Load) (Verdict : List (List ℕ) → Option FailedCheck → Type 0) (Writes : List (List ℕ) → List File → List ℕ → Type 0)
     (Lacking : HostState → HostState → Type 0) (end : CommandEnd) (a b c : HostState) → (Lacking a b → Lacking a c)
-    → OutcomeBy loads Verdict Writes Lacking end a b → Silent a b → SaidLine (line_of end) b c → OnlySays b c → RunsBy loads Verdict Writes Lacking end a c
+    → OutcomeBy loads Verdict Writes Lacking end a b → Silent a b → SaidLine (lines_of end) b c → OnlySays b c → RunsBy loads Verdict Writes Lacking end a c
 concluded_by loads Verdict Writes Lacking end a b c lacking outcome silent line only = record {
   outcome = said_outcome loads Verdict Writes Lacking end a b c lacking outcome only;
-  said = line_after_silence (line_of end) a b c silent line;
+  said = line_after_silence (lines_of end) a b c silent line;
 }
 
 -- the same of a command whose verdict is a function of its files
@@ -282,5 +282,5 @@ module _ (loads : List Load) (verdict : List (List ℕ) → Option FailedCheck) 
       unwritten_by loads (Computes verdict) Writes Lacking files outs console name a b c apart all sound writes stopped
 
   pub concluded : (Lacking : HostState → HostState → Type 0) (end : CommandEnd) (a b c : HostState) → (Lacking a b → Lacking a c)
-      → CommandOutcome loads verdict Writes Lacking end a b → Silent a b → SaidLine (line_of end) b c → OnlySays b c → CommandRuns loads verdict Writes Lacking end a c
+      → CommandOutcome loads verdict Writes Lacking end a b → Silent a b → SaidLine (lines_of end) b c → OnlySays b c → CommandRuns loads verdict Writes Lacking end a c
   concluded Lacking end a b c lacking outcome silent line only = concluded_by loads (Computes verdict) Writes Lacking end a b c lacking outcome silent line only

@@ -1,7 +1,9 @@
 -- One piece of a line after another.
-use Rattle.std.proofs.Common.{◌≡◌, ◌∙◌, sym, ap, refl, ℕ, List, [], ◌∷◌, ◌++◌, ◌/◌, ◌%◌, ◌^◌, ◌<◌, ◌≤◌, ◌+◌, Ok, Err, inl, inr, append_assoc, decimal, subst}
+use Rattle.std.proofs.Common.{◌≡◌, ◌∙◌, sym, ap, refl, ℕ, List, [], ◌∷◌, ◌++◌, ◌/◌, ◌%◌, ◌^◌, ◌<◌, ◌≤◌, ◌+◌, Ok, Err, inl, inr, append_assoc, codes, decimal, subst}
 use Rattle.std.specs.Prelude.{Result}
 use Rattle.std.proofs.lemmas.Fmt.{decimal_step, decimal_digit}
+use Rattle.or_text.specs.declared.sentence.Sentence.{Sentence}
+use Rattle.or_text.specs.Sentences.{clause_text, sentence_text, sentence_line}
 use Rattle.or_host.specs.Bytes.{Adds, AddsPrefix}
 use Rattle.or_host.specs.HostState.{HostState}
 use Rattle.or_command.specs.Leaves.{Silent}
@@ -25,6 +27,20 @@ number_end line n large small = append_assoc line (decimal (n / 10)) ((48 + n % 
 
 pub number_digit : (line : List ℕ) (n : ℕ) → n < 10 → line ++ (48 + n) ∷ [] ≡ line ++ decimal n
 number_digit line n small = ap (λ d. line ++ d) (sym (decimal_digit n small))
+
+-- one piece more behind a line
+piece_more : (line so_far all more : List ℕ) → all ≡ line ++ so_far → all ++ more ≡ line ++ (so_far ++ more)
+piece_more line so_far all more e = ap (λ l. l ++ more) e ∙ append_assoc line so_far more
+
+-- a sentence as the second line, piece by piece
+pub sentence_pieces : (line words : List ℕ) (sentence : Sentence) → words ≡ sentence.words.now
+    → line ++ codes "  " ++ words ++ clause_text sentence.first ++ clause_text sentence.second ++ clause_text sentence.third ++ clause_text sentence.fourth ++ codes "\n"
+    ≡ line ++ sentence_line (sentence_text sentence)
+unfolding sentence_text
+sentence_pieces line words sentence e =
+    piece_more line _ _ (codes "\n") (piece_more line _ _ (clause_text sentence.fourth) (piece_more line _ _ (clause_text sentence.third)
+    (piece_more line _ _ (clause_text sentence.second) (piece_more line _ _ (clause_text sentence.first)
+    (ap (λ w. line ++ codes "  " ++ w) e ∙ append_assoc line (codes "  ") sentence.words.now)))))
 
 pub only_then : (a b c : HostState) → OnlySays a b → OnlySays b c → OnlySays a c
 only_then a b c ab bc = record {

@@ -2,6 +2,7 @@ pub mod Leaves
 pub mod Writes
 pub mod Loads
 pub mod Lines
+pub mod Sentences
 pub mod Said
 pub mod Ends
 pub mod Outcomes

@@ -1,11 +1,16 @@
 -- The lines that are said of a command's end.
 use Rattle.std.specs.Prelude.{ℕ, ◌++◌, List, codes, decimal}
 use Rattle.or_text.specs.Hexadecimal.{digest_text}
+use Rattle.or_text.specs.Sentences.{sentence_line}
 use Rattle.or_command.specs.declared.refusal.ScheduleDetail.{ScheduleDetail}
 use Rattle.or_command.specs.declared.refusal.ScheduleDetail.TheVariants.{Head, At, Short, Image, Input, TurnStopped, CoreRunning, TurnWrites, TurnConsole}
 
 abbrev pub usage_line : List ℕ
 usage_line = codes "or1k: usage\n"
+
+-- with why the words are no command
+abbrev pub usage_lines : List ℕ → List ℕ
+usage_lines sentence = usage_line ++ sentence_line sentence
 
 abbrev pub memory_line : List ℕ
 memory_line = codes "or1k: no memory\n"

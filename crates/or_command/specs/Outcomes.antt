@@ -5,7 +5,7 @@ use Rattle.or_command.specs.Leaves.{Untouched, NoFault}
 use Rattle.or_command.specs.Writes.{File, IsOther, AllWritten, WriteStopped}
 use Rattle.or_command.specs.Loads.{Load, AreRead, StopsUnread, StopsTooLong}
 use Rattle.or_command.specs.Said.{SaidLine}
-use Rattle.or_command.specs.Ends.{FailedCheck, CommandEnd, done, unread, too_long, refused, unwritten, no_memory, line_of}
+use Rattle.or_command.specs.Ends.{FailedCheck, CommandEnd, done, unread, too_long, refused, unwritten, no_memory, lines_of}
 
 -- nothing is written or created, and no fault came
 pub record LeavesAll (old new : HostState) : Type 0 where
@@ -87,10 +87,10 @@ module _ (loads : List Load) (Verdict : List (List ℕ) → Option FailedCheck �
   OutcomeBy (unwritten name) old new = Breaks name old new
   OutcomeBy no_memory old new = Lacking old new
 
-  -- the same, with the line that was said of it
+  -- the same, with the lines that were said of it
   pub record RunsBy (end : CommandEnd) (old new : HostState) : Type 0 where
     pub outcome : OutcomeBy end old new
-    pub said : SaidLine (line_of end) old new
+    pub said : SaidLine (lines_of end) old new
 
   -- these files are told and fit: the check that fails decides, or none does
   pub record IsJudged (files : List (List ℕ)) (end : CommandEnd) : Type 0 where

@@ -21,7 +21,7 @@ pub record Said {U E : Type 0} (result : Result U E) (pieces : List ℕ) (old ne
   pub says : Says result pieces old new
   pub only : OnlySays old new
 
--- What was said grew by exactly this line, or by a prefix of it where say's count rose.
+-- What was said grew by exactly these lines, or by a prefix of them where say's count rose.
 abbrev pub SaidLine : List ℕ → HostState → HostState → Type 0
 SaidLine line old new =
     TellsStep (Adds line) old.said new.said ⊎ (TellsStep (AddsPrefix line) old.said new.said × Rose old.say_faults new.say_faults)

@@ -1,29 +1,35 @@
 // Says how a command ended, and gives its status.
-ghost use Rattle.std.specs.Prelude.{◌≡◌, ◌++◌, codes, decimal};
+ghost use Rattle.std.specs.Prelude.{◌≡◌, ◌++◌, ℕ, List, codes, decimal};
+ghost use Rattle.or_text.specs.Sentences.{sentence_text};
+ghost use Rattle.or_host.specs.HostState.{HostState};
 ghost use Rattle.or_command.specs.Said.{Said, SaidLine, OnlySays};
-ghost use Rattle.or_command.specs.Lines.{usage_line, schedule_line, no_failure_line, tries_line};
-ghost use Rattle.or_command.specs.Ends.{end_of, status_of, line_of, failed_check};
+ghost use Rattle.or_command.specs.Lines.{usage_lines, schedule_line, no_failure_line, tries_line};
+ghost use Rattle.or_command.specs.Ends.{end_of, status_of, line_of, second_line_of, lines_of, failed_check};
+ghost use Rattle.or_command.specs.Sentences.{write_sentence};
 
-use crate::saying::{then_detail, then_number, then_say};
+use crate::saying::{then_detail, then_number, then_say, then_sentence};
 use crate::{Outcome, Refusal, ScheduleDetail};
 use or_host::{Failed, Host};
+use or_text::{Part, Sentence};
 
-/// Says the line of a command's end, and answers its status. A fault of `say` changes no status.
+/// Says the line of a command's end and its sentence, and answers its status. Where a call of `say` fails, the rest of the two
+/// lines is not said; the status stays.
 pub fn conclude<H: Host>(host: &mut H, outcome: Outcome<'_>) -> u8
     ensures status { result ≡ status_of (end_of outcome.entry) }
-    ensures line { SaidLine (line_of (end_of outcome.entry)) (H.state host.old) (H.state host.new) }
+    ensures line { SaidLine (lines_of (end_of outcome.entry)) (H.state host.old) (H.state host.new) }
     ensures only { OnlySays (H.state host.old) (H.state host.new) }
 {
     let _ = say_outcome(host, outcome);
     outcome_status(outcome)
 }
 
-/// Says that the words are no command. A fault of `say` changes nothing.
-pub fn say_usage<H: Host>(host: &mut H)
-    ensures line { SaidLine usage_line (H.state host.old) (H.state host.new) }
+/// Says that the words are no command, and why. Where a call of `say` fails, the rest is not said.
+pub fn say_usage<H: Host>(host: &mut H, why: &Sentence<'_>)
+    ensures line { SaidLine (usage_lines (sentence_text why.now)) (H.state host.old) (H.state host.new) }
     ensures only { OnlySays (H.state host.old) (H.state host.new) }
 {
-    let _ = then_say(host, Ok(()), b"or1k: usage\n");
+    let so_far = then_say(host, Ok(()), b"or1k: usage\n");
+    let _ = then_sentence(host, so_far, why);
 }
 
 /// Says how many tries of a hunt were made without a failure. A fault of `say` changes nothing.
@@ -64,8 +70,65 @@ fn refusal_status(refusal: Refusal<'_>) -> u8
     }
 }
 
-// Says the line of an outcome.
+// Says the lines of an outcome.
 fn say_outcome<H: Host>(host: &mut H, outcome: Outcome<'_>) -> Result<(), Failed>
+    ensures { Said result (lines_of (end_of outcome.entry)) (H.state host.old) (H.state host.new) }
+{
+    let so_far = say_line(host, outcome);
+    then_second(host, so_far, outcome)
+}
+
+// Says the second line of an outcome.
+fn then_second<H: Host>(
+    host: &mut H,
+    so_far: Result<(), Failed>,
+    outcome: Outcome<'_>,
+) -> Result<(), Failed>
+    ensures { (start : HostState) (line : List ℕ) → Said so_far line start (H.state host.old)
+        → Said result (line ++ second_line_of (end_of outcome.entry)) start (H.state host.new) }
+{
+    match outcome {
+        Outcome::Done => so_far,
+        Outcome::Unread(_) => then_sentence(
+            host,
+            so_far,
+            &Sentence::plain("the file is not there, or the system failed to read it"),
+        ),
+        Outcome::TooLong(_, limit) => then_sentence(
+            host,
+            so_far,
+            &Sentence::one(
+                "the file has more than ",
+                Part::Number(limit as u64),
+                " bytes",
+            ),
+        ),
+        Outcome::Refused(refusal) => then_sentence(host, so_far, &refusal.sentence()),
+        Outcome::Unwritten(name) => then_sentence(host, so_far, &unwritten(name)),
+        Outcome::NoMemory => then_sentence(
+            host,
+            so_far,
+            &Sentence::plain("the system gave no more memory"),
+        ),
+    }
+}
+
+// What an output that was not written says to people.
+fn unwritten(name: &str) -> Sentence<'static>
+    ensures { sentence_text result ≡ write_sentence name.now }
+{
+    if name == "-" {
+        return Sentence::plain(
+            "the system took no more of standard output: is it closed, or the disk full?",
+        );
+    }
+    Sentence::plain(
+        "the system failed to create or write the file: is its directory there, and is the disk full?",
+    )
+}
+
+// Says the line of an outcome.
+fn say_line<H: Host>(host: &mut H, outcome: Outcome<'_>) -> Result<(), Failed>
     ensures { Said result (line_of (end_of outcome.entry)) (H.state host.old) (H.state host.new) }
 {
     match outcome {
@@ -83,19 +146,31 @@ fn say_refusal<H: Host>(host: &mut H, refusal: Refusal<'_>) -> Result<(), Failed
     ensures { Said result ((failed_check refusal.entry).line) (H.state host.old) (H.state host.new) }
 {
     match refusal {
-        Refusal::Image { name, fault, place } => {
-            say_fault(host, b"or1k: image ", name, fault, b" ", place)
-        }
-        Refusal::Source { name, fault, line } => {
-            say_fault(host, b"or1k: source ", name, fault, b" line ", line)
-        }
+        Refusal::Image {
+            name,
+            fault,
+            place,
+            ..
+        } => { say_fault(host, b"or1k: image ", name, fault, b" ", place) }
+        Refusal::Source {
+            name,
+            fault,
+            line,
+            ..
+        } => { say_fault(host, b"or1k: source ", name, fault, b" line ", line) }
         Refusal::Schedule { name, detail } => say_schedule(host, name, detail),
-        Refusal::Script { name, fault, line } => {
-            say_fault(host, b"or1k: script ", name, fault, b" line ", line)
-        }
-        Refusal::Symbols { name, fault, place } => {
-            say_fault(host, b"or1k: symbols ", name, fault, b" ", place)
-        }
+        Refusal::Script {
+            name,
+            fault,
+            line,
+            ..
+        } => { say_fault(host, b"or1k: script ", name, fault, b" line ", line) }
+        Refusal::Symbols {
+            name,
+            fault,
+            place,
+            ..
+        } => { say_fault(host, b"or1k: symbols ", name, fault, b" ", place) }
         Refusal::NoFailure { tries } => say_no_failure(host, tries),
     }
 }

@@ -1,13 +1,15 @@
 // Says a line in pieces: where a piece fails, the rest is not said. No piece takes memory.
-ghost use Rattle.std.specs.Prelude.{◌≡◌, ◌++◌, ◌<◌, List, ℕ, decimal, codes, false};
+ghost use Rattle.std.specs.Prelude.{◌≡◌, ◌++◌, ◌<◌, ◌/◌, ◌^◌, nat_lt, if◌then◌else◌, [], List, ℕ, decimal, codes, false};
 ghost use Rattle.std.specs.Fmt.{digit_glyph};
 ghost use Rattle.or_text.specs.Hexadecimal.{digest_text};
+ghost use Rattle.or_text.specs.Sentences.{address_text, range_text, part_text, clause_text, sentence_text, sentence_line};
 ghost use Rattle.or_host.specs.HostState.{HostState};
 ghost use Rattle.or_command.specs.Said.{Said};
 ghost use Rattle.or_command.specs.Lines.{detail_text};
 
 use crate::{Digests, ScheduleDetail};
 use or_host::{Failed, Host};
+use or_text::{Clause, Part, Sentence, word_digits};
 
 // Says a piece of a line, where what stands before it was said.
 pub(crate) fn then_say<H: Host>(
@@ -165,4 +167,90 @@ pub(crate) fn then_detail<H: Host>(
             found,
         } => then_counts(host, so_far, turn, b" console ", recorded, found),
     }
+}
+
+// Says what exceeds 32 bits, where something does.
+fn then_excess<H: Host>(host: &mut H, so_far: Result<(), Failed>, n: u64) -> Result<(), Failed>
+    ensures { (start : HostState) (line : List ℕ) → Said so_far line start (H.state host.old)
+        → Said result (line ++ (if nat_lt n (2 ^ 32) then [] else decimal (n / 2 ^ 32))) start (H.state host.new) }
+{
+    if n < 0x1_0000_0000 {
+        so_far
+    } else {
+        then_number(host, so_far, n / 0x1_0000_0000)
+    }
+}
+
+// Says an address.
+fn then_address<H: Host>(host: &mut H, so_far: Result<(), Failed>, n: u64) -> Result<(), Failed>
+    ensures { (start : HostState) (line : List ℕ) → Said so_far line start (H.state host.old)
+        → Said result (line ++ address_text n) start (H.state host.new) }
+{
+    let so_far = then_excess(host, so_far, n);
+    let digits = word_digits((n % 0x1_0000_0000) as u32);
+    then_say(host, so_far, &digits)
+}
+
+// Says two numbers.
+fn then_range<H: Host>(
+    host: &mut H,
+    so_far: Result<(), Failed>,
+    low: u64,
+    high: u64,
+) -> Result<(), Failed>
+    ensures { (start : HostState) (line : List ℕ) → Said so_far line start (H.state host.old)
+        → Said result (line ++ range_text low high) start (H.state host.new) }
+{
+    let so_far = then_number(host, so_far, low);
+    let so_far = then_say(host, so_far, b" to ");
+    then_number(host, so_far, high)
+}
+
+// Says a value.
+fn then_part<H: Host>(
+    host: &mut H,
+    so_far: Result<(), Failed>,
+    part: &Part<'_>,
+) -> Result<(), Failed>
+    ensures { (start : HostState) (line : List ℕ) → Said so_far line start (H.state host.old)
+        → Said result (line ++ part_text part.now) start (H.state host.new) }
+{
+    match part {
+        Part::Text(text) => then_say(host, so_far, text.as_bytes()),
+        Part::Number(n) => then_number(host, so_far, *n),
+        Part::Range { low, high } => then_range(host, so_far, *low, *high),
+        Part::Address(n) => then_address(host, so_far, *n),
+    }
+}
+
+// Says a value and the words behind it.
+fn then_clause<H: Host>(
+    host: &mut H,
+    so_far: Result<(), Failed>,
+    clause: &Clause<'_>,
+) -> Result<(), Failed>
+    ensures { (start : HostState) (line : List ℕ) → Said so_far line start (H.state host.old)
+        → Said result (line ++ clause_text clause.now) start (H.state host.new) }
+{
+    let so_far = then_part(host, so_far, &clause.value);
+    then_say(host, so_far, clause.words.as_bytes())
+}
+
+// Says a sentence as the second line.
+#[tactic(auto, unfolding(or_text::specs::Sentences::sentence_text))]
+pub(crate) fn then_sentence<H: Host>(
+    host: &mut H,
+    so_far: Result<(), Failed>,
+    sentence: &Sentence<'_>,
+) -> Result<(), Failed>
+    ensures { (start : HostState) (line : List ℕ) → Said so_far line start (H.state host.old)
+        → Said result (line ++ sentence_line (sentence_text sentence.now)) start (H.state host.new) }
+{
+    let so_far = then_say(host, so_far, b"  ");
+    let so_far = then_say(host, so_far, sentence.words.as_bytes());
+    let so_far = then_clause(host, so_far, &sentence.first);
+    let so_far = then_clause(host, so_far, &sentence.second);
+    let so_far = then_clause(host, so_far, &sentence.third);
+    let so_far = then_clause(host, so_far, &sentence.fourth);
+    then_say(host, so_far, b"\n")
 }

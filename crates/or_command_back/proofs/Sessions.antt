@@ -10,7 +10,8 @@ use Rattle.or_command_line.specs.Names.{Recorded}
 use Rattle.or_script.specs.declared.fault.ScriptFault.{ScriptFault}
 use Rattle.or_script.specs.declared.fault.ScriptFault.TheVariants.{BadCommand, OutOfRange, NoMemory}
 use Rattle.or_recorded.specs.Replay.{bytes_in}
-use Rattle.or_command_debug.specs.Debug.{script_bytes, script_check}
+use Rattle.or_recorded.specs.Refused.{script_check}
+use Rattle.or_command_debug.specs.Debug.{script_bytes}
 use Rattle.or_command_back.specs.Back.{back_loads, HasBackFault, BackVerdict, BackWrites, IsGoneOver, IsBackText}
 
 written : (names : Recorded) (name : List ℕ) (files : List (List ℕ)) (text : List ℕ) (end : CommandEnd) (a b : HostState)

@@ -15,7 +15,8 @@ use Rattle.or_back.specs.Script.{back_script_of, back_fault_of}
 use Rattle.or_back.specs.Session.{back_session_text}
 use Rattle.or_recorded.specs.Checked.{IsChecked}
 use Rattle.or_recorded.specs.Replay.{bytes_in, IsRefused}
-use Rattle.or_command_debug.specs.Debug.{debug_loads, script_bytes, script_check}
+use Rattle.or_recorded.specs.Refused.{script_check}
+use Rattle.or_command_debug.specs.Debug.{debug_loads, script_bytes}
 
 abbrev pub back_loads : Recorded → List ℕ → List Load
 back_loads names script = debug_loads names script

@@ -18,11 +18,11 @@ ghost use Rattle.or_command_back.specs.Back.{back_loads, BackVerdict, BackWrites
 
 use or_back::{History, ScriptFault, session};
 use or_command::{LoadStop, Outcome};
-use or_command_debug::{load_debugged, refuse_script, script_in};
+use or_command_debug::{load_debugged, script_in};
 use or_command_image::recorded_in;
 use or_command_line::Recorded;
 use or_host::Host;
-use or_recorded::{Recording, check, open_board, refuse, tell};
+use or_recorded::{Recording, check, open_board, refuse, refuse_script, tell};
 use std::alloc::Global;
 
 // The session of a script on a recorded run, with copies of its boards behind each so many turns. The image has no fault, so

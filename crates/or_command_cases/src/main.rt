@@ -16,7 +16,7 @@ use std::process::ExitCode;
 use std::sync::Wait;
 use std::thread::Threads;
 
-const FILES: [&str; 10] = [
+const FILES: [&str; 11] = [
     "host.cases",
     "images.cases",
     "line.cases",
@@ -27,6 +27,7 @@ const FILES: [&str; 10] = [
     "points.cases",
     "hunt.cases",
     "locks.cases",
+    "messages.cases",
 ];
 
 // Does what the lines of a file say.

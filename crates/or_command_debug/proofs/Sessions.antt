@@ -14,7 +14,8 @@ use Rattle.or_recorded.specs.declared.checked.Recording.{Recording}
 use Rattle.or_recorded.specs.declared.checked.Checked.{Checked}
 use Rattle.or_recorded.specs.Checked.{IsChecked, IsRunChecked}
 use Rattle.or_recorded.specs.Replay.{bytes_in}
-use Rattle.or_command_debug.specs.Debug.{debug_loads, script_bytes, script_check, HasScriptFault, DebugVerdict, DebugWrites, IsDebugged, IsText}
+use Rattle.or_recorded.specs.Refused.{script_check}
+use Rattle.or_command_debug.specs.Debug.{debug_loads, script_bytes, HasScriptFault, DebugVerdict, DebugWrites, IsDebugged, IsText}
 
 written : (names : Recorded) (name : List ℕ) (files : List (List ℕ)) (text : List ℕ) (end : CommandEnd) (a b : HostState)
     → IsDebugged (bytes_in names files) (script_bytes names.input files) text → WriteEnds [] text end a b → WritesSoFar (DebugVerdict names name) (DebugWrites names) files end a b

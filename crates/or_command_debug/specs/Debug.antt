@@ -3,7 +3,6 @@ use Rattle.std.specs.Prelude.{◌≡◌, ◌⊎◌, ℕ, List, [], ◌∷◌, �
 use Rattle.std.specs.declared.alloc.Global.{Global}
 use Rattle.or_sched.specs.declared.recording.Head.{Head}
 use Rattle.or_sched.specs.declared.recording.Mark.{Mark}
-use Rattle.or_command.specs.Lines.{script_line}
 use Rattle.or_command.specs.Loads.{Load}
 use Rattle.or_command.specs.Writes.{File}
 use Rattle.or_command.specs.Ends.{FailedCheck}
@@ -17,6 +16,7 @@ use Rattle.or_script.specs.Script.{script_of, fault_of}
 use Rattle.or_debug.specs.Session.{session_text}
 use Rattle.or_recorded.specs.Checked.{IsChecked}
 use Rattle.or_recorded.specs.Replay.{replay_loads, bytes_in, IsRefused}
+use Rattle.or_recorded.specs.Refused.{script_check}
 
 abbrev pub debug_loads : Recorded → List ℕ → List Load
 debug_loads names script = replay_loads names ++ record { name = script; limit = SCRIPT_LIMIT } ∷ []
@@ -24,12 +24,6 @@ debug_loads names script = replay_loads names ++ record { name = script; limit =
 -- the script's bytes among those that were loaded, by the input's name: they are the last
 abbrev pub script_bytes : List ℕ → List (List ℕ) → List ℕ
 script_bytes input files = if is_no_input input then file_at files 2 else file_at files 3
-
--- the status and the line of a script's fault
-abbrev pub script_check : List ℕ → ScriptFault → Option FailedCheck
-script_check name (BadCommand line) = Some (record { status = 10; line = script_line name 1 line })
-script_check name (OutOfRange line) = Some (record { status = 10; line = script_line name 2 line })
-script_check name NoMemory = None
 
 -- the checks of the recorded run pass, and the script has this fault, or none, for the recorded settings
 pub record HasScriptFault (bytes : RecordedBytes) (script : List ℕ) (fault : Option ScriptFault) : Type 0 where

@@ -14,13 +14,13 @@ ghost use Rattle.or_recorded.specs.Checked.{IsChecked};
 ghost use Rattle.or_recorded.specs.Replay.{bytes_in};
 ghost use Rattle.or_command_debug.specs.Debug.{debug_loads, script_bytes, DebugVerdict, DebugWrites, IsText};
 
-use crate::scripts::{load_debugged, refuse_script, script_in};
+use crate::scripts::{load_debugged, script_in};
 use or_command::{LoadStop, Outcome};
 use or_command_image::recorded_in;
 use or_command_line::Recorded;
 use or_debug::{ScriptFault, session};
 use or_host::Host;
-use or_recorded::{Recording, check, open_board, refuse, tell};
+use or_recorded::{Recording, check, open_board, refuse, refuse_script, tell};
 use std::alloc::Global;
 
 // The session of a script on a recorded run. The image has no fault, so only memory keeps its board from being opened.

@@ -5,4 +5,4 @@ mod debugging;
 mod scripts;
 
 pub use debugging::debug;
-pub use scripts::{load_debugged, refuse_script, script_in};
+pub use scripts::{load_debugged, script_in};

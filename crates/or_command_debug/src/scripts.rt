@@ -3,16 +3,13 @@ ghost use Rattle.std.specs.Prelude.{◌≡◌, false, codes, MatchResult};
 ghost use Rattle.std.specs.Str.{bytes_eq};
 ghost use Rattle.or_host.specs.Calls.{IsName};
 ghost use Rattle.or_command.specs.Leaves.{Silent};
-ghost use Rattle.or_command.specs.Ends.{end_of};
-ghost use Rattle.or_command.specs.Finishing.{end_of_check};
 ghost use Rattle.or_command.specs.Loads.{bytes_of, LoadsAll, LoadsSome};
 ghost use Rattle.or_command_line.specs.Names.{recorded_names, AreRecorded};
-ghost use Rattle.or_command_debug.specs.Debug.{debug_loads, script_bytes, script_check};
+ghost use Rattle.or_command_debug.specs.Debug.{debug_loads, script_bytes};
 
-use or_command::{Input, LoadStop, Outcome, Refusal, load_files};
+use or_command::{Input, LoadStop, load_files};
 use or_command_image::file_at;
 use or_command_line::Recorded;
-use or_debug::ScriptFault;
 use or_host::Host;
 use or_words::limits::{IMAGE_LIMIT, INPUT_LIMIT, RECORDING_LIMIT, SCRIPT_LIMIT};
 use std::alloc::Global;
@@ -62,23 +59,4 @@ pub fn script_in<'f>(input: &str, files: &'f [Vec<u8>]) -> &'f [u8]
         return file_at(files, 2);
     }
     file_at(files, 3)
-}
-
-/// The end of a command on a script that has this fault: NoMemory, or a refusal with status 10.
-pub fn refuse_script(name: &str, fault: ScriptFault) -> Outcome<'_>
-    ensures { end_of result ≡ end_of_check (script_check name.now fault) }
-{
-    match fault {
-        ScriptFault::BadCommand { line } => Outcome::Refused(Refusal::Script {
-            name,
-            fault: 1,
-            line: u64::from(line),
-        }),
-        ScriptFault::OutOfRange { line } => Outcome::Refused(Refusal::Script {
-            name,
-            fault: 2,
-            line: u64::from(line),
-        }),
-        ScriptFault::NoMemory => Outcome::NoMemory,
-    }
 }

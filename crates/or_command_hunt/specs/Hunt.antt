@@ -22,6 +22,7 @@ use Rattle.or_command_line.specs.declared.HuntOptions.{HuntOptions}
 use Rattle.or_command_line.specs.Names.{Names}
 use Rattle.or_command.specs.Loads.{Load}
 use Rattle.or_command.specs.Lines.{no_failure_line}
+use Rattle.or_command.specs.Sentences.{no_failure_sentence}
 use Rattle.or_command.specs.Writes.{File}
 use Rattle.or_command.specs.Ends.{FailedCheck}
 use Rattle.or_command.specs.Outcomes.{LeavesAll}
@@ -43,7 +44,7 @@ hunt_start options files = start options.config (image_in files) (input_in files
 
 -- no core failed in so many tries
 abbrev pub no_failure : ℕ → FailedCheck
-no_failure tries = record { status = 14; line = no_failure_line tries }
+no_failure tries = record { status = 14; line = no_failure_line tries; sentence = no_failure_sentence }
 
 -- the least seed of the range on which a core fails
 pub record SomeFails (options : HuntOptions) (files : List (List ℕ)) : Type 0 where

@@ -4,14 +4,12 @@ use Rattle.std.specs.Prelude.{Option, codes}
 use Rattle.std.specs.Str.{bytes_eq}
 use Rattle.or_words.specs.declared.limits.TheConstants.{INPUT_LIMIT}
 use Rattle.or_elf.specs.declared.fault.ElfFault.{ElfFault}
-use Rattle.or_elf.specs.Fault.{number_of, place_of}
 use Rattle.or_host.specs.HostState.{HostState}
-use Rattle.or_command.specs.Lines.{image_line}
 use Rattle.or_command.specs.Loads.{AreRead}
 use Rattle.or_command.specs.Writes.{File}
 use Rattle.or_command.specs.Ends.{FailedCheck}
 use Rattle.or_command.specs.Outcomes.{AreApart}
-use Rattle.or_command_image.specs.Loaded.{image_loads, image_in, image_check}
+use Rattle.or_command_image.specs.Loaded.{image_loads, image_in, image_told, image_check}
 
 -- an image that was read is within its limit
 pub image_small : (image input : List ℕ) (files : List (List ℕ)) (state : HostState) → AreRead (image_loads image input) files state → length (image_in files) ≤ 67108864
@@ -39,4 +37,4 @@ written_apart image input schedule recording report text schedule_image schedule
 pub image_status : (name : List ℕ) (found : Option ElfFault) (fault : FailedCheck) → image_check name found ≡ Some fault → fault.status ≡ 3
 image_status name None fault e = absurd (let b : ⊥ = cc in b)
 image_status name (Some found) fault e =
-    let same : record { status = 3; line = image_line name (number_of found) (place_of found) } ≡ fault = cc in sym (ap (λ (f : FailedCheck). f.status) same)
+    let same : image_told name found ≡ fault = cc in sym (ap (λ (f : FailedCheck). f.status) same)

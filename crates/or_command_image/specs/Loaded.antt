@@ -7,6 +7,7 @@ use Rattle.or_command.specs.Lines.{image_line}
 use Rattle.or_command.specs.Ends.{FailedCheck}
 use Rattle.or_elf.specs.declared.fault.ElfFault.{ElfFault}
 use Rattle.or_elf.specs.Fault.{number_of, place_of}
+use Rattle.or_elf.specs.Sentences.{elf_sentence}
 
 -- `-` stands for no input, and is not loaded
 abbrev pub is_no_input : List ℕ → Bool
@@ -32,10 +33,14 @@ input_in [] = []
 input_in (image ∷ []) = []
 input_in (image ∷ input ∷ others) = input
 
+-- what is told of a fault of an image
+abbrev pub image_told : List ℕ → ElfFault → FailedCheck
+image_told name fault = record { status = 3; line = image_line name (number_of fault) (place_of fault); sentence = elf_sentence fault }
+
 -- the check of an image
 abbrev pub image_check : List ℕ → Option ElfFault → Option FailedCheck
 image_check name None = None
-image_check name (Some fault) = Some (record { status = 3; line = image_line name (number_of fault) (place_of fault) })
+image_check name (Some fault) = Some (image_told name fault)
 
 -- the file at a place among those that were loaded
 abbrev pub file_at : List (List ℕ) → ℕ → List ℕ

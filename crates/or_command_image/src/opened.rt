@@ -39,6 +39,7 @@ pub fn refused(name: &str, fault: OpenFault) -> Outcome<'_>
             name,
             fault: fault.number(),
             place: u64::from(fault.place()),
+            why: fault.sentence(),
         }),
     }
 }

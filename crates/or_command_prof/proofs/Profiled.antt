@@ -14,7 +14,8 @@ use Rattle.or_recorded.specs.declared.checked.Recording.{Recording}
 use Rattle.or_recorded.specs.declared.checked.Checked.{Checked}
 use Rattle.or_recorded.specs.Checked.{IsChecked, IsRunChecked}
 use Rattle.or_recorded.specs.Replay.{bytes_in}
-use Rattle.or_command_prof.specs.Prof.{prof_loads, symbols_check, HasSymbolFault, ProfVerdict, ProfWrites, IsProfiled, IsText}
+use Rattle.or_recorded.specs.Refused.{symbols_check}
+use Rattle.or_command_prof.specs.Prof.{prof_loads, HasSymbolFault, ProfVerdict, ProfWrites, IsProfiled, IsText}
 
 written : (names : Recorded) (files : List (List ℕ)) (text : List ℕ) (end : CommandEnd) (a b : HostState)
     → IsProfiled (bytes_in names files) text → WriteEnds [] text end a b → WritesSoFar (ProfVerdict names) (ProfWrites names) files end a b

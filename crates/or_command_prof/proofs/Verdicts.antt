@@ -5,7 +5,8 @@ use Rattle.or_command_line.specs.Names.{Recorded}
 use Rattle.or_command_image.specs.Loaded.{RecordedBytes}
 use Rattle.or_elf.specs.declared.symbol_fault.SymFault.{SymFault}
 use Rattle.or_recorded.proofs.Verdicts.{one_verdict as one_verdict_of_run}
-use Rattle.or_command_prof.specs.Prof.{symbols_check, HasSymbolFault, AreSymbolsRefused, BytesJudged}
+use Rattle.or_recorded.specs.Refused.{symbols_check}
+use Rattle.or_command_prof.specs.Prof.{HasSymbolFault, AreSymbolsRefused, BytesJudged}
 
 -- the symbols have a fault, or none
 not_both : (bytes : RecordedBytes) (fault : SymFault) → HasSymbolFault bytes None → HasSymbolFault bytes (Some fault) → ⊥

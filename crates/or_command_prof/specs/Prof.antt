@@ -3,10 +3,9 @@ use Rattle.std.specs.Prelude.{◌≡◌, ◌⊎◌, ℕ, List, [], Option, Some,
 use Rattle.std.specs.declared.alloc.Global.{Global}
 use Rattle.or_elf.specs.declared.symbol_fault.SymFault.{SymFault}
 use Rattle.or_elf.specs.declared.symbol_fault.SymFault.TheVariants.{BadSections, BadTable, BadName, NoMemory}
-use Rattle.or_elf.specs.Symbols.{symbol_fault, symbols_of, symbol_number_of, symbol_place_of}
+use Rattle.or_elf.specs.Symbols.{symbol_fault, symbols_of}
 use Rattle.or_sched.specs.declared.recording.Head.{Head}
 use Rattle.or_sched.specs.declared.recording.Mark.{Mark}
-use Rattle.or_command.specs.Lines.{symbols_line}
 use Rattle.or_command.specs.Loads.{Load}
 use Rattle.or_command.specs.Writes.{File}
 use Rattle.or_command.specs.Ends.{FailedCheck}
@@ -15,21 +14,12 @@ use Rattle.or_command_image.specs.Loaded.{RecordedBytes}
 use Rattle.or_replay.specs.Start.{start}
 use Rattle.or_recorded.specs.Checked.{IsChecked}
 use Rattle.or_recorded.specs.Replay.{replay_loads, bytes_in, IsRefused, IsSound}
+use Rattle.or_recorded.specs.Refused.{symbols_check}
 use Rattle.or_prof.specs.Text.{IsProfText}
 use Rattle.or_command_prof.specs.Traces.{traces}
 
 abbrev pub prof_loads : Recorded → List Load
 prof_loads names = replay_loads names
-
--- the status and the line of a fault of the symbols
-abbrev pub fault_told : List ℕ → SymFault → FailedCheck
-fault_told name fault = record { status = 12; line = symbols_line name (symbol_number_of fault) (symbol_place_of fault) }
-
-abbrev pub symbols_check : List ℕ → SymFault → Option FailedCheck
-symbols_check name (BadSections field) = Some (fault_told name (BadSections field))
-symbols_check name (BadTable index) = Some (fault_told name (BadTable index))
-symbols_check name (BadName index) = Some (fault_told name (BadName index))
-symbols_check name NoMemory = None
 
 -- the checks of the recorded run pass, and the image's symbols have this fault, or none
 pub record HasSymbolFault (bytes : RecordedBytes) (fault : Option SymFault) : Type 0 where

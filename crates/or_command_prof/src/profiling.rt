@@ -5,22 +5,22 @@ ghost use Rattle.or_words.specs.Settings.{Fits, ram_bytes};
 ghost use Rattle.or_elf.specs.Fault.{elf_fault};
 ghost use Rattle.or_command.specs.Leaves.{Silent};
 ghost use Rattle.or_command.specs.Ends.{end_of};
-ghost use Rattle.or_command.specs.Finishing.{GoesOn, end_of_check};
+ghost use Rattle.or_command.specs.Finishing.{GoesOn};
 ghost use Rattle.or_command.specs.Outcomes.{OutcomeBy, LeavesAll};
 ghost use Rattle.or_command.specs.Loads.{bytes_of};
 ghost use Rattle.or_command_line.specs.Names.{recorded_names, AreRecorded};
 ghost use Rattle.or_command_image.specs.Loaded.{RecordedBytes};
 ghost use Rattle.or_recorded.specs.Checked.{IsChecked};
 ghost use Rattle.or_recorded.specs.Replay.{bytes_in};
-ghost use Rattle.or_command_prof.specs.Prof.{prof_loads, symbols_check, ProfVerdict, ProfWrites, IsText};
+ghost use Rattle.or_command_prof.specs.Prof.{prof_loads, ProfVerdict, ProfWrites, IsText};
 
 use crate::counting::profile_text;
-use or_command::{LoadStop, Outcome, Refusal};
+use or_command::{LoadStop, Outcome};
 use or_command_image::{load_recorded, recorded_in};
 use or_command_line::Recorded;
 use or_elf::{SymFault, Symbols};
 use or_host::Host;
-use or_recorded::{Recording, check, refuse, tell};
+use or_recorded::{Recording, check, refuse, refuse_symbols, tell};
 use std::alloc::Global;
 
 // The profile of a recorded run whose checks have passed, or the fault of its image's symbols.
@@ -42,20 +42,6 @@ fn text(
         Ok(text) => Ok(text),
         Err(_) => Err(SymFault::NoMemory),
     }
-}
-
-// The end of a command on an image whose symbols have this fault: NoMemory, or a refusal with status 12.
-fn refuse_symbols(name: &str, fault: SymFault) -> Outcome<'_>
-    ensures { end_of result ≡ end_of_check (symbols_check name.now fault) }
-{
-    if fault == SymFault::NoMemory {
-        return Outcome::NoMemory;
-    }
-    Outcome::Refused(Refusal::Symbols {
-        name,
-        fault: fault.number(),
-        place: u64::from(fault.place()),
-    })
 }
 
 // How a profile of files that were loaded ends.

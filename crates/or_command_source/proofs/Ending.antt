@@ -2,10 +2,9 @@
 use Rattle.std.proofs.Common.{◌≡◌, ◌≢◌, ◌∙◌, sym, ap, refl, subst, ℕ, Bool, List, [], ◌∷◌, ◌++◌, Option, Some, None, inl, inr, arith, append-nil, ◌≤◌, length}
 use Rattle.std.specs.Prelude.{Result, Ok, Err, ◌⊎◌}
 use Rattle.or_asm_read.specs.declared.fault.Fault.{Fault}
-use Rattle.or_asm_read.specs.Faults.{number_of_fault}
 use Rattle.or_asm.specs.Source.{source_of}
 use Rattle.or_elf.specs.declared.fault.ElfFault.{ElfFault}
-use Rattle.or_elf.specs.Fault.{elf_fault, number_of, place_of}
+use Rattle.or_elf.specs.Fault.{elf_fault}
 use Rattle.or_elf.specs.Text.{Piece, word_count, elf_text}
 use Rattle.or_elf.proofs.WrittenFault.{length-elf_text}
 use Rattle.or_host.specs.Bytes.{AddsPrefix}
@@ -13,14 +12,13 @@ use Rattle.or_host.specs.Told.{TellsSame, TellsStep}
 use Rattle.or_host.specs.HostState.{HostState}
 use Rattle.or_command.specs.Writes.{File, AllWritten}
 use Rattle.or_command.specs.Loads.{AreRead, AllRead, LoadsAll}
-use Rattle.or_command.specs.Lines.{source_line, image_line}
 use Rattle.or_command.specs.Said.{OnlySays}
 use Rattle.or_command.specs.Ends.{FailedCheck, CommandEnd, done, unread, too_long, refused, unwritten, no_memory}
 use Rattle.or_command.specs.Outcomes.{LeavesAll, AreApart, CommandOutcome}
 use Rattle.or_command.proofs.TellsLemmas.{same_refl, same_then, same_then_step, step_then_same, no_fault_then}
 use Rattle.or_command.proofs.OutcomesLemmas.{read_stays, done_outcome, unwritten_outcome, refusal_outcome}
-use Rattle.or_command_source.specs.Assembly.{asm_loads, asm_check, source_check, AsmWrites, only_file}
-use Rattle.or_command_source.specs.Listing.{dis_loads, dis_check, fault_check, DisWrites, DisLacks, IsListed, listing}
+use Rattle.or_command_source.specs.Assembly.{asm_loads, asm_check, source_told, source_check, AsmWrites, only_file}
+use Rattle.or_command_source.specs.Listing.{dis_loads, dis_check, fault_told, fault_check, DisWrites, DisLacks, IsListed, listing}
 use Rattle.or_command_line.specs.declared.Workload.{Workload}
 use Rattle.or_command_source.specs.Generation.{gen_loads, gen_check, GenWrites}
 use Rattle.or_command_source.specs.Listed.{Wrote, DisEnds}
@@ -33,12 +31,12 @@ asm_apart source image symbols apart files outs console writes = subst (AreApart
 pub source_status : (name : List ℕ) (said : Result (List Piece) (Fault × ℕ)) (fault : FailedCheck) → source_check name said ≡ Some fault → fault.status ≡ 9
 source_status name (Ok program) fault e = absurd (let b : ⊥ = cc in b)
 source_status name (Err refusal) fault e =
-    let same : record { status = 9; line = source_line name (number_of_fault refusal.0) refusal.1 } ≡ fault = cc in sym (ap (λ (f : FailedCheck). f.status) same)
+    let same : source_told name refusal ≡ fault = cc in sym (ap (λ (f : FailedCheck). f.status) same)
 
 image_status : (name : List ℕ) (found : Option ElfFault) (fault : FailedCheck) → fault_check name found ≡ Some fault → fault.status ≡ 3
 image_status name None fault e = absurd (let b : ⊥ = cc in b)
 image_status name (Some found) fault e =
-    let same : record { status = 3; line = image_line name (number_of found) (place_of found) } ≡ fault = cc in sym (ap (λ (f : FailedCheck). f.status) same)
+    let same : fault_told name found ≡ fault = cc in sym (ap (λ (f : FailedCheck). f.status) same)
 
 -- neither check has status 2
 pub asm_not_two : (source : List ℕ) (files : List (List ℕ)) (fault : FailedCheck) → asm_check source files ≡ Some fault → fault.status ≢ 2

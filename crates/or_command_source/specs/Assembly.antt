@@ -6,6 +6,7 @@ use Rattle.or_asm_read.specs.Faults.{number_of_fault}
 use Rattle.or_asm.specs.Source.{source_of}
 use Rattle.or_asm.specs.First.{all_labels}
 use Rattle.or_asm.specs.Symbols.{symbols_of}
+use Rattle.or_asm.specs.Sentences.{source_sentence}
 use Rattle.or_elf.specs.Text.{Piece, elf_text}
 use Rattle.or_elf.specs.LabelText.{labelled_text}
 use Rattle.or_command.specs.Loads.{Load}
@@ -21,10 +22,15 @@ abbrev pub only_file : List (List ℕ) → List ℕ
 only_file [] = []
 only_file (file ∷ others) = file
 
+-- what is told of the least fault of a source's first faulty line
+abbrev pub source_told : List ℕ → Fault × ℕ → FailedCheck
+source_told name refusal =
+    record { status = 9; line = source_line name (number_of_fault refusal.0) refusal.1; sentence = source_sentence refusal.0 }
+
 -- the check of a source
 abbrev pub source_check : List ℕ → Result (List Piece) (Fault × ℕ) → Option FailedCheck
 source_check name (Ok program) = None
-source_check name (Err refusal) = Some (record { status = 9; line = source_line name (number_of_fault refusal.0) refusal.1 })
+source_check name (Err refusal) = Some (source_told name refusal)
 
 abbrev pub asm_check : List ℕ → List (List ℕ) → Option FailedCheck
 asm_check source files = source_check source (source_of (only_file files))

@@ -11,6 +11,7 @@ use Rattle.or_elf.specs.declared.segment.Segment.{Segment}
 use Rattle.or_elf.specs.declared.fault.ElfFault.{ElfFault}
 use Rattle.or_elf.specs.Header.{segments}
 use Rattle.or_elf.specs.Fault.{elf_fault, number_of, place_of}
+use Rattle.or_elf.specs.Sentences.{elf_sentence}
 use Rattle.or_host.specs.HostState.{HostState}
 use Rattle.or_host.specs.Told.{TellsSame, TellsStep}
 use Rattle.or_host.specs.Bytes.{AddsPrefix}
@@ -52,9 +53,12 @@ listing bytes = flat_map (segment_lines bytes) (segments bytes)
 abbrev pub dis_loads : List ℕ → List Load
 dis_loads image = record { name = image; limit = IMAGE_LIMIT } ∷ []
 
+abbrev pub fault_told : List ℕ → ElfFault → FailedCheck
+fault_told name fault = record { status = 3; line = image_line name (number_of fault) (place_of fault); sentence = elf_sentence fault }
+
 abbrev pub fault_check : List ℕ → Option ElfFault → Option FailedCheck
 fault_check name None = None
-fault_check name (Some fault) = Some (record { status = 3; line = image_line name (number_of fault) (place_of fault) })
+fault_check name (Some fault) = Some (fault_told name fault)
 
 -- the image has no fault for 256 MiB of RAM
 abbrev pub dis_check : List ℕ → List (List ℕ) → Option FailedCheck

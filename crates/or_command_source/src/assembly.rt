@@ -89,6 +89,7 @@ pub fn refuse_source(name: &str, fault: AsmFault) -> Outcome<'_>
             name,
             fault: fault.number(),
             line: u64::from(line),
+            why: fault.sentence(),
         }),
     }
 }

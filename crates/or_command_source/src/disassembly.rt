@@ -31,6 +31,7 @@ fn finish<'a, H: Host>(alloc: Global, name: &'a str, image: &[u8], host: &mut H)
                 name,
                 fault: fault.number(),
                 place: u64::from(fault.place()),
+                why: fault.sentence(),
             });
         }
     };

@@ -7,27 +7,26 @@ use Rattle.or_script.specs.declared.fault.ScriptFault.TheVariants.{BadCommand, O
 use Rattle.or_recorded.specs.declared.refused.OwnFault.{OwnFault}
 use Rattle.or_recorded.specs.declared.refused.OwnFault.TheVariants.{Symbols, Script, NoMemory as NoMemoryForOwn}
 use Rattle.or_recorded.specs.Files.{Names}
-use Rattle.or_recorded.specs.Refused.{fault_told, symbols_check, named_script_check, own_check}
+use Rattle.or_recorded.specs.Refused.{fault_told, symbols_check, script_told, script_check, named_script_check, own_check}
 use Rattle.or_recorded.specs.Command.{Run, Verdict}
 use Rattle.or_command.specs.declared.refusal.ScheduleDetail.{ScheduleDetail}
 use Rattle.or_command.specs.declared.refusal.ScheduleDetail.TheVariants as detail
 use Rattle.or_command.specs.Ends.{FailedCheck}
 use Rattle.or_elf.specs.declared.fault.ElfFault.{ElfFault}
-use Rattle.or_elf.specs.Fault.{number_of, place_of}
-use Rattle.or_command.specs.Lines.{schedule_line, image_line, script_line}
+use Rattle.or_command_image.specs.Loaded.{image_told}
 use Rattle.or_sched.specs.declared.recording.RecFault.{RecFault}
 use Rattle.or_sched.specs.declared.recording.RecFault.TheVariants.{BadHead, BadRun, Short, NoMemory as NoMemoryToRead}
 use Rattle.or_command_line.specs.Names.{Recorded}
 use Rattle.or_recorded.specs.declared.checked.RunFault.{RunFault}
 use Rattle.or_recorded.specs.declared.checked.RunFault.TheVariants.{Text, Image, Input, Elf, Turns, NoMemory}
-use Rattle.or_recorded.specs.Replay.{schedule_check, text_check, turn_detail, fault_check, RecordedVerdict}
+use Rattle.or_recorded.specs.Replay.{schedule_told, schedule_check, text_check, turn_detail, fault_check, RecordedVerdict}
 
 -- the status of a check that is given
-pub status_is : (status : ℕ) (line : List ℕ) (check : FailedCheck) → Some (record { status = status; line = line }) ≡ Some check → check.status ≡ status
-status_is status line check e = let same : record { status = status; line = line } ≡ check = cc in sym (ap (λ (c : FailedCheck). c.status) same)
+status_is : (told check : FailedCheck) → Some told ≡ Some check → check.status ≡ told.status
+status_is told check e = let same : told ≡ check = cc in sym (ap (λ (c : FailedCheck). c.status) same)
 
 of_schedule : (name : List ℕ) (detail : ScheduleDetail) (check : FailedCheck) → schedule_check name detail ≡ Some check → check.status ≢ 2
-of_schedule name detail check told two = let four = status_is 4 (schedule_line name detail) check told in absurd (omega (arith, four, two))
+of_schedule name detail check told two = let four = status_is (schedule_told name detail) check told in absurd (omega (arith, four, two))
 
 of_text : (name : List ℕ) (fault : RecFault) (check : FailedCheck) → text_check name fault ≡ Some check → check.status ≢ 2
 of_text name (BadHead line) check told = of_schedule name (detail.Head line) check told
@@ -35,8 +34,8 @@ of_text name (BadRun at) check told = of_schedule name (detail.At at) check told
 of_text name Short check told = of_schedule name detail.Short check told
 of_text name NoMemoryToRead check told = absurd (let b : ⊥ = cc in b)
 
-of_image : (name : List ℕ) (fault : ElfFault) (check : FailedCheck) → Some (record { status = 3; line = image_line name (number_of fault) (place_of fault) }) ≡ Some check → check.status ≢ 2
-of_image name fault check told two = let three = status_is 3 (image_line name (number_of fault) (place_of fault)) check told in absurd (omega (arith, three, two))
+of_image : (name : List ℕ) (fault : ElfFault) (check : FailedCheck) → Some (image_told name fault) ≡ Some check → check.status ≢ 2
+of_image name fault check told two = let three = status_is (image_told name fault) check told in absurd (omega (arith, three, two))
 
 of_fault : (names : Recorded) (fault : RunFault) (check : FailedCheck) → fault_check names fault ≡ Some check → check.status ≢ 2
 of_fault names (Text fault) check told = of_text names.schedule fault check told
@@ -51,26 +50,29 @@ pub recorded_not_two : (names : Recorded) (files : List (List ℕ)) (check : Fai
 recorded_not_two names files check refused = of_fault names refused.fault check refused.told
 
 twelve : (name : List ℕ) (fault : SymFault) (check : FailedCheck) → Some (fault_told name fault) ≡ Some check → check.status ≢ 2
-twelve name fault check told two = let status = status_is 12 ((fault_told name fault).line) check told in absurd (omega (arith, status, two))
+twelve name fault check told two = let status = status_is (fault_told name fault) check told in absurd (omega (arith, status, two))
 
-of_symbols : (name : List ℕ) (fault : SymFault) (check : FailedCheck) → symbols_check name fault ≡ Some check → check.status ≢ 2
+pub of_symbols : (name : List ℕ) (fault : SymFault) (check : FailedCheck) → symbols_check name fault ≡ Some check → check.status ≢ 2
 of_symbols name (BadSections field) check told = twelve name (BadSections field) check told
 of_symbols name (BadTable index) check told = twelve name (BadTable index) check told
 of_symbols name (BadName index) check told = twelve name (BadName index) check told
 of_symbols name NoMemoryForSymbols check told = absurd (let b : ⊥ = cc in b)
 
-ten : (name : List ℕ) (number line : ℕ) (check : FailedCheck) → Some (record { status = 10; line = script_line name number line }) ≡ Some check → check.status ≢ 2
-ten name number line check told two = let status = status_is 10 (script_line name number line) check told in absurd (omega (arith, status, two))
+ten : (name : List ℕ) (number line : ℕ) (fault : ScriptFault) (check : FailedCheck) → Some (script_told name number line fault) ≡ Some check → check.status ≢ 2
+ten name number line fault check told two = let status = status_is (script_told name number line fault) check told in absurd (omega (arith, status, two))
 
-of_script : (name : Option (List ℕ)) (fault : ScriptFault) (check : FailedCheck) → named_script_check name fault ≡ Some check → check.status ≢ 2
-of_script None fault check told = absurd (let b : ⊥ = cc in b)
-of_script (Some name) (BadCommand line) check told = ten name 1 line check told
-of_script (Some name) (OutOfRange line) check told = ten name 2 line check told
-of_script (Some name) NoMemoryForScript check told = absurd (let b : ⊥ = cc in b)
+pub of_script : (name : List ℕ) (fault : ScriptFault) (check : FailedCheck) → script_check name fault ≡ Some check → check.status ≢ 2
+of_script name (BadCommand line) check told = ten name 1 line (BadCommand line) check told
+of_script name (OutOfRange line) check told = ten name 2 line (OutOfRange line) check told
+of_script name NoMemoryForScript check told = absurd (let b : ⊥ = cc in b)
+
+of_named_script : (name : Option (List ℕ)) (fault : ScriptFault) (check : FailedCheck) → named_script_check name fault ≡ Some check → check.status ≢ 2
+of_named_script None fault check told = absurd (let b : ⊥ = cc in b)
+of_named_script (Some name) fault check told = of_script name fault check told
 
 of_own : (names : Names) (own : OwnFault) (check : FailedCheck) → own_check names own ≡ Some check → check.status ≢ 2
 of_own names (Symbols fault) check told = of_symbols names.run.image fault check told
-of_own names (Script fault) check told = of_script names.script fault check told
+of_own names (Script fault) check told = of_named_script names.script fault check told
 of_own names NoMemoryForOwn check told = absurd (let b : ⊥ = cc in b)
 
 -- no command on a recorded run has a check of status 2

@@ -3,8 +3,10 @@ use Rattle.std.specs.Prelude.{◌≡◌, ℕ, List, Option, Some, None}
 use Rattle.or_elf.specs.declared.symbol_fault.SymFault.{SymFault}
 use Rattle.or_elf.specs.declared.symbol_fault.SymFault.TheVariants.{BadSections, BadTable, BadName, NoMemory as NoMemoryForSymbols}
 use Rattle.or_elf.specs.Symbols.{symbol_number_of, symbol_place_of}
+use Rattle.or_elf.specs.Sentences.{symbol_sentence}
 use Rattle.or_script.specs.declared.fault.ScriptFault.{ScriptFault}
 use Rattle.or_script.specs.declared.fault.ScriptFault.TheVariants.{BadCommand, OutOfRange, NoMemory as NoMemoryForScript}
+use Rattle.or_script.specs.Sentences.{script_sentence}
 use Rattle.or_command.specs.Lines.{symbols_line, script_line}
 use Rattle.or_command.specs.Ends.{FailedCheck}
 use Rattle.or_recorded.specs.declared.refused.OwnFault.{OwnFault}
@@ -12,7 +14,7 @@ use Rattle.or_recorded.specs.declared.refused.OwnFault.TheVariants.{Symbols, Scr
 use Rattle.or_recorded.specs.Files.{Names}
 
 abbrev pub fault_told : List ℕ → SymFault → FailedCheck
-fault_told name fault = record { status = 12; line = symbols_line name (symbol_number_of fault) (symbol_place_of fault) }
+fault_told name fault = record { status = 12; line = symbols_line name (symbol_number_of fault) (symbol_place_of fault); sentence = symbol_sentence fault }
 
 -- a fault of the image's symbols
 abbrev pub symbols_check : List ℕ → SymFault → Option FailedCheck
@@ -21,10 +23,13 @@ symbols_check name (BadTable index) = Some (fault_told name (BadTable index))
 symbols_check name (BadName index) = Some (fault_told name (BadName index))
 symbols_check name NoMemoryForSymbols = None
 
+abbrev pub script_told : List ℕ → ℕ → ℕ → ScriptFault → FailedCheck
+script_told name number line fault = record { status = 10; line = script_line name number line; sentence = script_sentence fault }
+
 -- a fault of a script
 abbrev pub script_check : List ℕ → ScriptFault → Option FailedCheck
-script_check name (BadCommand line) = Some (record { status = 10; line = script_line name 1 line })
-script_check name (OutOfRange line) = Some (record { status = 10; line = script_line name 2 line })
+script_check name (BadCommand line) = Some (script_told name 1 line (BadCommand line))
+script_check name (OutOfRange line) = Some (script_told name 2 line (OutOfRange line))
 script_check name NoMemoryForScript = None
 
 abbrev pub named_script_check : Option (List ℕ) → ScriptFault → Option FailedCheck

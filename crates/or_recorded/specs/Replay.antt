@@ -1,6 +1,5 @@
 -- What the command `replay` loads, checks and writes.
 use Rattle.std.specs.Prelude.{◌≡◌, ℕ, List, [], ◌∷◌, Option, Some, None, length}
-use Rattle.or_elf.specs.Fault.{number_of, place_of}
 use Rattle.or_sched.specs.declared.recording.Head.{Head}
 use Rattle.or_sched.specs.declared.recording.Mark.{Mark}
 use Rattle.or_sched.specs.declared.recording.RecFault.{RecFault}
@@ -8,12 +7,13 @@ use Rattle.or_sched.specs.declared.recording.RecFault.TheVariants.{BadHead, BadR
 use Rattle.or_model.specs.Turn.{Board, replay}
 use Rattle.or_command.specs.declared.refusal.ScheduleDetail.{ScheduleDetail}
 use Rattle.or_command.specs.declared.refusal.ScheduleDetail.TheVariants as detail
-use Rattle.or_command.specs.Lines.{schedule_line, image_line}
+use Rattle.or_command.specs.Lines.{schedule_line}
+use Rattle.or_command.specs.Sentences.{detail_sentence}
 use Rattle.or_command.specs.Loads.{Load}
 use Rattle.or_command.specs.Writes.{File}
 use Rattle.or_command.specs.Ends.{FailedCheck}
 use Rattle.or_command_line.specs.Names.{Recorded}
-use Rattle.or_command_image.specs.Loaded.{recorded_loads, RecordedBytes, recorded_bytes, is_no_input}
+use Rattle.or_command_image.specs.Loaded.{recorded_loads, image_told, RecordedBytes, recorded_bytes, is_no_input}
 use Rattle.or_replay.specs.Start.{start}
 use Rattle.or_replay.specs.Report.{report_text}
 use Rattle.or_replay.specs.declared.follow.TurnFault.{TurnFault}
@@ -29,8 +29,11 @@ replay_loads names = recorded_loads names.image names.input names.schedule
 abbrev pub bytes_in : Recorded → List (List ℕ) → RecordedBytes
 bytes_in names files = recorded_bytes (is_no_input names.input) files
 
+abbrev pub schedule_told : List ℕ → ScheduleDetail → FailedCheck
+schedule_told name detail = record { status = 4; line = schedule_line name detail; sentence = detail_sentence detail }
+
 abbrev pub schedule_check : List ℕ → ScheduleDetail → Option FailedCheck
-schedule_check name detail = Some (record { status = 4; line = schedule_line name detail })
+schedule_check name detail = Some (schedule_told name detail)
 
 abbrev pub text_check : List ℕ → RecFault → Option FailedCheck
 text_check name (BadHead line) = schedule_check name (detail.Head line)
@@ -51,7 +54,7 @@ abbrev pub fault_check : Recorded → RunFault → Option FailedCheck
 fault_check names (Text fault) = text_check names.schedule fault
 fault_check names (Image digests) = schedule_check names.schedule (detail.Image digests)
 fault_check names (Input digests) = schedule_check names.schedule (detail.Input digests)
-fault_check names (Elf fault) = Some (record { status = 3; line = image_line names.image (number_of fault) (place_of fault) })
+fault_check names (Elf fault) = Some (image_told names.image fault)
 fault_check names (Turns fault) = schedule_check names.schedule (turn_detail fault)
 fault_check names NoMemory = None
 

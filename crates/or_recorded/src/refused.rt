@@ -1,10 +1,9 @@
 //! How a command ends on a recorded run that a check refuses.
 ghost use Rattle.std.specs.Prelude.{◌≡◌, Some};
-ghost use Rattle.or_command.specs.Lines.{schedule_line};
 ghost use Rattle.or_command.specs.Ends.{end_of, refused};
 ghost use Rattle.or_command.specs.Finishing.{end_of_check};
 ghost use Rattle.or_command_line.specs.Names.{recorded_names};
-ghost use Rattle.or_recorded.specs.Replay.{turn_detail, text_check, fault_check};
+ghost use Rattle.or_recorded.specs.Replay.{turn_detail, schedule_told, text_check, fault_check};
 ghost use Rattle.or_recorded.specs.Files.{names_of};
 ghost use Rattle.or_recorded.specs.Refused.{own_check, symbols_check, script_check};
 ghost use Rattle.or_recorded.specs.Command.{told_check};
@@ -72,6 +71,7 @@ pub fn refuse_symbols(name: &str, fault: SymFault) -> Outcome<'_>
         name,
         fault: fault.number(),
         place: u64::from(fault.place()),
+        why: fault.sentence(),
     })
 }
 
@@ -84,11 +84,13 @@ pub fn refuse_script(name: &str, fault: ScriptFault) -> Outcome<'_>
             name,
             fault: 1,
             line: u64::from(line),
+            why: fault.sentence(),
         }),
         ScriptFault::OutOfRange { line } => Outcome::Refused(Refusal::Script {
             name,
             fault: 2,
             line: u64::from(line),
+            why: fault.sentence(),
         }),
         ScriptFault::NoMemory => Outcome::NoMemory,
     }
@@ -107,6 +109,7 @@ pub fn refuse<'a>(files: &Recorded<'a>, fault: RunFault) -> Outcome<'a>
             name: files.image,
             fault: fault.number(),
             place: u64::from(fault.place()),
+            why: fault.sentence(),
         }),
         RunFault::Turns(fault) => refuse_schedule(files.schedule, detail_of(fault)),
         RunFault::NoMemory => Outcome::NoMemory,
@@ -125,7 +128,7 @@ fn refuse_text(name: &str, fault: RecFault) -> Outcome<'_>
 }
 
 fn refuse_schedule(name: &str, detail: ScheduleDetail) -> Outcome<'_>
-    ensures { end_of result ≡ refused (record { status = 4; line = schedule_line name.now detail }) }
+    ensures { end_of result ≡ refused (schedule_told name.now detail) }
 {
     Outcome::Refused(Refusal::Schedule { name, detail })
 }
