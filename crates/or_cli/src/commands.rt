@@ -28,7 +28,7 @@ use or_command_debug::debug;
 use or_command_hunt::hunt;
 use or_command_line::{Command, Hunt, RaceOptions, Recorded, Run, Workload, explain, parse};
 use or_command_prof::prof;
-use or_command_run::{bench, run, run_status};
+use or_command_run::{bench, run, run_status, say_budgets};
 use or_command_source::{asm, dis, generate};
 use or_host::Host;
 use or_recorded::{Names, Race, RecordedCommand, carry_out, replay};
@@ -53,6 +53,7 @@ fn run_command<R: Threads + Wait + Sync, H: Host, G: Gate + Sync>(
 {
     let ended = run(rt, alloc, words, host, gate);
     let status = conclude(host, ended.outcome);
+    say_budgets(host, status, ended.lines.as_slice());
     run_status(words.options.status, ended.failed, status)
 }
 

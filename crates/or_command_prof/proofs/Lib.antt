@@ -1,5 +1,4 @@
 pub mod Following
-pub mod Images
 pub mod Levels
 pub mod Profiled
 pub mod Statuses

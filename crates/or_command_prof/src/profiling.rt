@@ -24,7 +24,7 @@ use or_recorded::{Recording, check, refuse, refuse_symbols, tell};
 use std::alloc::Global;
 
 // The profile of a recorded run whose checks have passed, or the fault of its image's symbols.
-#[tactic(auto, using(crate::proofs::Images::sound_is_long))]
+#[tactic(auto, using(or_command_image::proofs::Headers::sound_is_long))]
 fn text(
     alloc: Global,
     recording: &Recording,

@@ -1,3 +1,5 @@
 pub mod Stopping
 pub mod Runs
 pub mod Benches
+pub mod Behind
+pub mod Used

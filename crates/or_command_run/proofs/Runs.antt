@@ -8,6 +8,7 @@ use Rattle.or_command.specs.Writes.{File}
 use Rattle.or_command.specs.Ends.{FailedCheck}
 use Rattle.or_command.specs.Outcomes.{AreApart}
 use Rattle.or_command_image.specs.Loaded.{image_in}
+use Rattle.or_command_image.proofs.Headers.{sound_is_long}
 use Rattle.or_command_image.proofs.Images.{image_small, image_status, written_files, written_apart}
 use Rattle.or_command_line.specs.Names.{Names, AreWritten}
 use Rattle.or_command_run.specs.Run.{run_loads, run_check, RunWrites, run_status}
@@ -17,10 +18,10 @@ run_apart : (names : Names) (recording report : List ℕ) → AreWritten names �
 run_apart names recording report written =
     written_apart names.image names.input names.schedule recording names.report report written.schedule_image written.schedule_input written.report.image written.report.input
 
-pub apart_of : (names : Names) (config : Config) (failed : Bool) → AreWritten names → (files : List (List ℕ)) (outs : List File) (console : List ℕ)
-    → RunWrites names config failed files outs console
+pub apart_of : (names : Names) (config : Config) (failed : Bool) (lines : List ℕ) → AreWritten names → (files : List (List ℕ)) (outs : List File) (console : List ℕ)
+    → RunWrites names config failed lines files outs console
     → AreApart (run_loads names) outs
-apart_of names config failed written files outs console writes = subst (AreApart (run_loads names)) (sym writes.outputs) (run_apart names writes.recording writes.report written)
+apart_of names config failed lines written files outs console writes = subst (AreApart (run_loads names)) (sym writes.outputs) (run_apart names writes.recording writes.report written)
 
 -- no check of a run has status 2
 pub run_not_two : (names : Names) (config : Config) (files : List (List ℕ)) (fault : FailedCheck) → run_check names config files ≡ Some fault → fault.status ≢ 2
@@ -35,4 +36,4 @@ other_status false status other two = other two
 pub run_status_not_two : (asked failed : Bool) (status : ℕ) → status ≢ 2 → run_status asked failed status ≢ 2
 run_status_not_two asked failed status other = other_status ((asked && failed) && status == 0) status other
 
-pub ruleset runs = (image_small)
+pub ruleset runs = (image_small, sound_is_long)

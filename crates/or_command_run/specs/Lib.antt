@@ -1,3 +1,4 @@
 pub mod Recorded
+pub mod Budgets
 pub mod Run
 pub mod Bench

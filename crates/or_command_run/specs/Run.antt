@@ -19,6 +19,7 @@ use Rattle.or_command.specs.Answered.{Answers, IsDecided}
 use Rattle.or_command_image.specs.Loaded.{image_loads, image_in, input_in, image_check}
 use Rattle.or_command_image.specs.Opened.{head_of}
 use Rattle.or_command_run.specs.Recorded.{IsRecorded}
+use Rattle.or_command_run.specs.Budgets.{budget_lines, AreSaidBehind}
 
 abbrev pub run_loads : Names → List Load
 run_loads names = image_loads names.image names.input
@@ -27,37 +28,45 @@ run_loads names = image_loads names.image names.input
 abbrev pub run_check : Names → Config → List (List ℕ) → Option FailedCheck
 run_check names config files = image_check names.image (elf_fault (image_in files) (ram_bytes config))
 
--- a recorded run from a start, the report of the board to which it leads, and whether a core failed
-pub record IsRunFrom (first : Board) (head : Head) (recording report console : List ℕ) (failed : Bool) : Type 0 where
+-- a recorded run of an image from a start, the report of the board to which it leads, whether a core failed, and the lines of the
+-- cores that used up their budget
+pub record IsRunFrom (first : Board) (head : Head) (image recording report console : List ℕ) (failed : Bool) (lines : List ℕ) : Type 0 where
   pub run : IsRecorded first head recording console
   pub reported : report ≡ report_text run.last (length run.schedule)
   pub failed_is : failed ≡ some_core_fails run.last.cores
+  pub lines_are : lines ≡ budget_lines image head.config.budget run.last.cores
 
 -- the same of the run of an image with an input
-abbrev pub IsRun : Config → List ℕ → List ℕ → List ℕ → List ℕ → List ℕ → Bool → Type 0
-IsRun config image input recording report console failed = IsRunFrom (start config image input) (head_of config image input) recording report console failed
+abbrev pub IsRun : Config → List ℕ → List ℕ → List ℕ → List ℕ → List ℕ → Bool → List ℕ → Type 0
+IsRun config image input recording report console failed lines =
+    IsRunFrom (start config image input) (head_of config image input) image recording report console failed lines
 
--- the files and the console that a run of these settings on these files writes, where a core fails or none does
-pub record RunWrites (names : Names) (config : Config) (failed : Bool) (files : List (List ℕ)) (outs : List File) (console : List ℕ) : Type 0 where
+-- the files and the console that a run of these settings on these files writes, where a core fails or none does, and the lines of
+-- used-up budgets are these
+pub record RunWrites (names : Names) (config : Config) (failed : Bool) (lines : List ℕ) (files : List (List ℕ)) (outs : List File) (console : List ℕ) : Type 0 where
   pub recording : List ℕ
   pub report : List ℕ
-  pub is_run : IsRun config (image_in files) (input_in files) recording report console failed
+  pub is_run : IsRun config (image_in files) (input_in files) recording report console failed lines
   pub outputs : outs ≡ record { name = names.schedule; text = recording } ∷ record { name = names.report; text = report } ∷ []
 
 -- with `--status` 15 stands for 0 where a core failed
 abbrev pub run_status : Bool → Bool → ℕ → ℕ
 run_status asked failed status = if (asked && failed) && status == 0 then 15 else status
 
--- what the command answers, and what stands then
+-- what the command answers, and what stands then; where all was done, the lines of used-up budgets are said behind that
 pub record RunAnswers (names : Names) (options : RunOptions) (status : ℕ) (old new : HostState) : Type 0 where
   pub failed : Bool
+  pub lines : List ℕ
   pub plain : ℕ
   pub status_is : status ≡ run_status options.status failed plain
-  pub answers : Answers (run_loads names) (run_check names options.config) (RunWrites names options.config failed) LeavesAll plain old new
+  pub ended : HostState
+  pub answers : Answers (run_loads names) (run_check names options.config) (RunWrites names options.config failed lines) LeavesAll plain old ended
+  pub told : AreSaidBehind plain lines ended new
 
 -- where no fault came, the files decide the status, or memory ran out; with `--status` 15 may stand for 0
 pub record RunDecided (names : Names) (options : RunOptions) (status : ℕ) (old new : HostState) : Type 0 where
   pub failed : Bool
+  pub lines : List ℕ
   pub plain : ℕ
   pub status_is : status ≡ run_status options.status failed plain
-  pub decided : IsDecided (run_loads names) (run_check names options.config) (RunWrites names options.config failed) LeavesAll plain old new
+  pub decided : IsDecided (run_loads names) (run_check names options.config) (RunWrites names options.config failed lines) LeavesAll plain old new

@@ -2,7 +2,9 @@
 #![tactic(auto)]
 
 mod benching;
+mod budgets;
 mod running;
 
 pub use benching::bench;
+pub use budgets::say_budgets;
 pub use running::{RunEnd, run, run_status};

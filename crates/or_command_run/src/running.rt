@@ -19,6 +19,7 @@ ghost use Rattle.or_command.specs.Answered.{FinishEnds};
 ghost use Rattle.or_command_image.specs.Opened.{RunFails};
 ghost use Rattle.or_command_run.specs.Run.{run_loads, run_check, IsRun, IsRunFrom, RunWrites, run_status};
 
+use crate::budgets::budget_lines;
 use or_board::Gate;
 use or_command::{LoadStop, Outcome};
 use or_command_image::{head, image_in, input_in, load_image, refused, write_recorded};
@@ -33,20 +34,23 @@ use std::sync::Wait;
 use std::thread::Threads;
 
 /// How a run ended.
-#[derive(Clone, Copy)]
+#[derive(Drop)]
 pub struct RunEnd<'a> {
     pub outcome: Outcome<'a>,
     /// Whether a core failed: it stopped by its budget, or with an exit value that is not 0.
     pub failed: bool,
+    /// The lines of the cores that used up their budget, which are said where all was done.
+    pub lines: Vec<u8>,
 }
 
-// What a run writes, and whether a core failed.
+// What a run writes, whether a core failed, and the lines of those that used up their budget.
 #[derive(Drop)]
 struct RunTexts {
     recording: Vec<u8>,
     report: Vec<u8>,
     console: Vec<u8>,
     failed: bool,
+    lines: Vec<u8>,
 }
 
 /// The exit status of a run that ended with this one: 15 in place of 0 where a core failed and that is asked for.
@@ -62,13 +66,15 @@ pub fn run_status(asked: bool, failed: bool, status: u8) -> u8
 
 // The texts of a run that has come to its end.
 #[tactic(auto, using(crate::proofs::Runs::runs))]
-fn texts(alloc: Global, head: &Head, closed: Closed) -> Result<RunTexts, NoMemory>
+fn texts(alloc: Global, head: &Head, image: &[u8], closed: Closed) -> Result<RunTexts, NoMemory>
     requires fits { Fits head.now.config }
+    requires limit { length image.now ≤ IMAGE_LIMIT }
+    requires sound { elf_fault image.now (ram_bytes head.now.config) ≡ None }
     requires schedule { IsSchedule head.now.config closed.schedule.items }
     requires marks { AreMarks closed.schedule.items closed.marks.items }
     requires order { AreOfBus closed.cores.items closed.bus }
     ensures { IfOk result (λ texts. (start : BoardModel) → IsThreadedRun start closed
-        → IsRunFrom start head.now texts.recording.items texts.report.items texts.console.items texts.failed) }
+        → IsRunFrom start head.now image.now texts.recording.items texts.report.items texts.console.items texts.failed texts.lines.items) }
 {
     let Closed {
         cores,
@@ -79,6 +85,7 @@ fn texts(alloc: Global, head: &Head, closed: Closed) -> Result<RunTexts, NoMemor
     let mut recording = Vec::new(alloc);
     or_sched::write(head, &schedule, &marks, &mut recording)?;
     let failed = has_failed(cores.as_slice());
+    let lines = budget_lines(alloc, image, head.config.budget, cores.as_slice())?;
     let mut text = Vec::new(alloc);
     let console = report(
         alloc,
@@ -92,6 +99,7 @@ fn texts(alloc: Global, head: &Head, closed: Closed) -> Result<RunTexts, NoMemor
         report: text,
         console,
         failed,
+        lines,
     })
 }
 
@@ -109,7 +117,7 @@ fn make<R: Threads + Wait + Sync, G: Gate + Sync>(
     requires stay { FitsStay options.now.stay }
     requires limit { length image.now ≤ IMAGE_LIMIT }
     ensures run { MatchResult result
-        (λ texts. (elf_fault image.now (ram_bytes options.now.config) ≡ None) × IsRun options.now.config image.now input.now texts.recording.items texts.report.items texts.console.items texts.failed)
+        (λ texts. (elf_fault image.now (ram_bytes options.now.config) ≡ None) × IsRun options.now.config image.now input.now texts.recording.items texts.report.items texts.console.items texts.failed texts.lines.items)
         (λ fault. RunFails image.now (ram_bytes options.now.config) fault) }
 {
     let Ok(bytes) = Vec::from_slice(alloc, input) else {
@@ -117,7 +125,7 @@ fn make<R: Threads + Wait + Sync, G: Gate + Sync>(
     };
     let config = &options.config;
     match or_board::run(rt, alloc, config, image, bytes, options.stay, gate) {
-        Ok(closed) => match texts(alloc, &head(config, image, input), closed) {
+        Ok(closed) => match texts(alloc, &head(config, image, input), image, closed) {
             Ok(texts) => Ok(texts),
             Err(_) => Err(OpenFault::NoMemory),
         },
@@ -138,7 +146,7 @@ fn finish<'a, R: Threads + Wait + Sync, H: Host, G: Gate + Sync>(
     requires fits { Fits words.now.options.config }
     requires stay { FitsStay words.now.options.stay }
     requires limit { length (image_of (bytes_of files.now)) ≤ IMAGE_LIMIT }
-    ensures outcome { FinishEnds (run_check (run_names words.now) words.now.options.config) (RunWrites (run_names words.now) words.now.options.config result.failed) (bytes_of files.now) (end_of result.outcome) (H.state host.old) (H.state host.new) }
+    ensures outcome { FinishEnds (run_check (run_names words.now) words.now.options.config) (RunWrites (run_names words.now) words.now.options.config result.failed result.lines.items) (bytes_of files.now) (end_of result.outcome) (H.state host.old) (H.state host.new) }
     ensures silent { Silent (H.state host.old) (H.state host.new) }
 {
     match make(
@@ -149,13 +157,18 @@ fn finish<'a, R: Threads + Wait + Sync, H: Host, G: Gate + Sync>(
         input_in(files),
         gate,
     ) {
-        Ok(texts) => RunEnd {
-            outcome: write(words, &texts, host),
-            failed: texts.failed,
-        },
+        Ok(texts) => {
+            let outcome = write(words, &texts, host);
+            RunEnd {
+                outcome,
+                failed: texts.failed,
+                lines: texts.lines,
+            }
+        }
         Err(fault) => RunEnd {
             outcome: refused(words.image, fault),
             failed: false,
+            lines: Vec::new(alloc),
         },
     }
 }
@@ -189,7 +202,7 @@ pub fn run<'a, R: Threads + Wait + Sync, H: Host, G: Gate + Sync>(
     requires names { AreWritten (run_names words.now) }
     requires fits { Fits words.now.options.config }
     requires stay { FitsStay words.now.options.stay }
-    ensures outcome { CommandOutcome (run_loads (run_names words.now)) (run_check (run_names words.now) words.now.options.config) (RunWrites (run_names words.now) words.now.options.config result.failed) LeavesAll
+    ensures outcome { CommandOutcome (run_loads (run_names words.now)) (run_check (run_names words.now) words.now.options.config) (RunWrites (run_names words.now) words.now.options.config result.failed result.lines.items) LeavesAll
         (end_of result.outcome) (H.state host.old) (H.state host.new) }
     ensures silent { Silent (H.state host.old) (H.state host.new) }
 {
@@ -199,14 +212,17 @@ pub fn run<'a, R: Threads + Wait + Sync, H: Host, G: Gate + Sync>(
         Err(LoadStop::Unread(name)) => RunEnd {
             outcome: Outcome::Unread(name),
             failed: false,
+            lines: Vec::new(alloc),
         },
         Err(LoadStop::TooLong(name, limit)) => RunEnd {
             outcome: Outcome::TooLong(name, limit),
             failed: false,
+            lines: Vec::new(alloc),
         },
         Err(LoadStop::NoMemory) => RunEnd {
             outcome: Outcome::NoMemory,
             failed: false,
+            lines: Vec::new(alloc),
         },
     }
 }

@@ -1,11 +1,13 @@
-use Rattle.std.proofs.Common.{◌≢◌, ℕ, subst, sym}
+use Rattle.std.proofs.Common.{◌≢◌, ℕ, List, subst, sym}
 use Rattle.or_command_line.specs.Names.{run_names}
 use Rattle.or_command.specs.Ends.{end_of}
 use Rattle.or_command.specs.Outcomes.{LeavesAll}
 use Rattle.or_command.proofs.OutcomesLemmas.{said_leaves_all}
 use Rattle.or_command.proofs.AnsweredLemmas.{answered, decided, not_two}
 use Rattle.or_command_run.specs.Run.{run_loads, run_check, RunWrites}
+use Rattle.or_command_run.specs.Budgets.{AreSaidBehind}
 use Rattle.or_command_run.proofs.Runs.{run_not_two, run_status_not_two}
+use Rattle.or_command_run.proofs.Behind.{decided_behind}
 use Rattle.or_cli.proofs.commands.run_command.Goals as goal
 
 pub returns-clause-ends : goal.returns-clause-ends
@@ -13,27 +15,35 @@ returns-clause-ends g c =
     let names = run_names c.args.words.now in
     let config = c.args.words.now.options.config in
     let failed = c.run-ended.result.failed in
+    let lines = c.run-ended.result.lines.items in
     let a = g.H.Host.state c.args.host.now in
     let b = g.H.Host.state c.run-ended.new.host in
-    let d = g.H.Host.state c.conclude-status.new.host in record {
+    let d = g.H.Host.state c.conclude-status.new.host in
+    let e = g.H.Host.state c.say_budgets.new.host in record {
       failed = failed;
+      lines = lines;
       plain = c.conclude-status.result;
       status_is = c.run_status.ensures;
-      answers = answered (run_loads names) (run_check names config) (RunWrites names config failed) LeavesAll (end_of c.run-ended.result.outcome) c.conclude-status.result a b d
+      ended = d;
+      answers = answered (run_loads names) (run_check names config) (RunWrites names config failed lines) LeavesAll (end_of c.run-ended.result.outcome) c.conclude-status.result a b d
           (λ left. said_leaves_all a b d left c.conclude-status.ensures.only) c.conclude-status.ensures.status c.run-ended.ensures.outcome c.run-ended.ensures.silent
           c.conclude-status.ensures.line c.conclude-status.ensures.only;
+      told = subst (λ (l : List ℕ). AreSaidBehind c.conclude-status.result l d e) c.as_slice.ensures.value c.say_budgets.ensures;
     }
 
 pub returns-clause-complete : goal.returns-clause-complete
 returns-clause-complete g c =
     let names = run_names c.args.words.now in
     let config = c.args.words.now.options.config in
-    let ends = returns-clause-ends g c in record {
+    let ends = returns-clause-ends g c in
+    let a = g.H.Host.state c.args.host.now in record {
       failed = ends.failed;
+      lines = ends.lines;
       plain = ends.plain;
       status_is = ends.status_is;
-      decided = decided (run_loads names) (run_check names config) (RunWrites names config ends.failed) LeavesAll ends.plain
-          (g.H.Host.state c.args.host.now) (g.H.Host.state c.conclude-status.new.host) ends.answers;
+      decided = decided_behind (run_loads names) (run_check names config) (RunWrites names config ends.failed ends.lines) LeavesAll ends.plain
+          a ends.ended (g.H.Host.state c.say_budgets.new.host)
+          (decided (run_loads names) (run_check names config) (RunWrites names config ends.failed ends.lines) LeavesAll ends.plain a ends.ended ends.answers) ends.told.only;
     }
 
 pub returns-clause-command : goal.returns-clause-command
@@ -43,5 +53,5 @@ returns-clause-command g c =
     let ends = returns-clause-ends g c in
     subst (λ (status : ℕ). status ≢ 2) (sym ends.status_is)
     (run_status_not_two options.status ends.failed ends.plain
-    (not_two (run_loads names) (run_check names options.config) (RunWrites names options.config ends.failed) LeavesAll ends.plain
-    (g.H.Host.state c.args.host.now) (g.H.Host.state c.conclude-status.new.host) (run_not_two names options.config) ends.answers))
+    (not_two (run_loads names) (run_check names options.config) (RunWrites names options.config ends.failed ends.lines) LeavesAll ends.plain
+    (g.H.Host.state c.args.host.now) ends.ended (run_not_two names options.config) ends.answers))

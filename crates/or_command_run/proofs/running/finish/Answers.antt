@@ -14,6 +14,6 @@ returns-in-Err-clause-outcome g c =
     let names = run_names c.args.words.now in
     let config = c.args.words.now.options.config in
     let files = bytes_of c.args.files.now in
-    stops_end (run_check names config) (RunWrites names config false) files (end_of c.refused.result) (g.H.Host.state c.args.host.now)
+    stops_end (run_check names config) (RunWrites names config false c.new.result.items) files (end_of c.refused.result) (g.H.Host.state c.args.host.now)
     (c.refused.ensures (image_in files) (ram_bytes config)
     (subst (λ (image : List ℕ). RunFails image (ram_bytes config) c.in-Err.fault) c.image_in.ensures c.in-Err.ensures.run))

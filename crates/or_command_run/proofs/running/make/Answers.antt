@@ -14,7 +14,7 @@ returns-in-Ok-texts g c =
     subst (λ (bytes : List ℕ). IsThreadedRun (start config image bytes) c.in-Ok-run.closed) c.in-Ok.ensures.items c.in-Ok-run.ensures.run.1 in record {
       run = (
         c.in-Ok-run.ensures.run.0,
-        subst (λ (head : Head). IsRunFrom (start config image c.args.input.now) head texts.recording.items texts.report.items texts.console.items texts.failed) c.head.ensures
+        subst (λ (head : Head). IsRunFrom (start config image c.args.input.now) head image texts.recording.items texts.report.items texts.console.items texts.failed texts.lines.items) c.head.ensures
             (c.in-Ok-texts.ensures (start config image c.args.input.now) run),
       );
     }

@@ -14,9 +14,9 @@ pub returns-in-Ok-clause-outcome : goal.returns-in-Ok-clause-outcome
 returns-in-Ok-clause-outcome g c =
     let names = run_names c.args.words.now in
     let config = c.args.words.now.options.config in
-    goes_on (run_loads names) (run_check names config) (RunWrites names config c.finish.result.failed) (apart_of names config c.finish.result.failed c.requires.names)
+    goes_on (run_loads names) (run_check names config) (RunWrites names config c.finish.result.failed c.finish.result.lines.items) (apart_of names config c.finish.result.failed c.finish.result.lines.items c.requires.names)
     (bytes_of c.new-files.result.items) (bytes_of c.load_image.new.into.items) (end_of c.finish.result.outcome)
     (g.H.Host.state c.args.host.now) (g.H.Host.state c.load_image.new.host) (g.H.Host.state c.finish.new.host)
     (ap bytes_of c.new-files.ensures.items) c.in-Ok.ensures.files
-    (subst (λ (files : List (Vec ℕ Global)). FinishEnds (run_check names config) (RunWrites names config c.finish.result.failed) (bytes_of files) (end_of c.finish.result.outcome)
+    (subst (λ (files : List (Vec ℕ Global)). FinishEnds (run_check names config) (RunWrites names config c.finish.result.failed c.finish.result.lines.items) (bytes_of files) (end_of c.finish.result.outcome)
     (g.H.Host.state c.load_image.new.host) (g.H.Host.state c.finish.new.host)) c.as_slice.ensures.value c.finish.ensures.outcome)
