@@ -1,26 +1,38 @@
 //! Runs the programs of `examples/`, and the workload, through the top call on real files. `data/` has the files of
-//! `examples/` that it reads, under the same names. What it prints does not depend on the schedule.
+//! `examples/` that it reads, under the same names. Then it goes to the edges of real files: a directory, a full disk, a read that
+//! fails late, a long program. What it prints does not depend on the schedule.
 #![tactic(auto)]
 
+mod edges;
+
+use edges::{EDGES, write_long_source};
 use or_cli::{FileHost, Host, OpenGate, top};
 use std::alloc::{AllocError, Global};
 use std::fs;
+use std::fs::OpenOptions;
+use std::io::Write;
 use std::process::ExitCode;
 use std::sync::Wait;
 use std::thread::Threads;
 
 /// What is done in a line.
 #[derive(Clone, Copy)]
-enum Line {
+pub(crate) enum Line {
     /// A command of `or1k`, with its words.
     Command(&'static str),
     /// Prints how each core of this report stopped. Unlike a core's steps, that does not depend on the schedule.
     Exits(&'static str),
+    /// A command that is refused, with what it says on standard error and its status.
+    Refused(&'static str),
+    /// The same, where standard output is full.
+    Full(&'static str),
+    /// Prints whether two files hold the same.
+    Same(&'static str, &'static str),
 }
 
-use Line::{Command, Exits};
+use Line::{Command, Exits, Full, Refused, Same};
 
-const LINES: [Line; 44] = [
+const EXAMPLES: [Line; 44] = [
     Command("asm hello/hello.s hello.elf"),
     Command("run hello.elf - hello.sched hello.rep --ram 1"),
     Command("dis hello.elf"),
@@ -105,22 +117,79 @@ fn exits(rt: &HostRuntime, report: &str) -> u8 {
     0
 }
 
-fn main(rt: HostRuntime) -> ExitCode {
-    for line in LINES {
-        let status = match line {
-            Command(words) => {
-                let _ = println!(rt; "$ {words}");
-                command(&rt, rt.alloc(), words, &mut FileHost::new(&rt))
-            }
-            Exits(report) => {
-                let _ = println!(rt; "exit values in {report}:");
-                exits(&rt, report)
-            }
-        };
+// Prints the status of a command, behind what it says. It answers 0, so that the next line follows.
+fn refused<R: Threads + Wait + Sync, O: Write + Drop>(
+    rt: &HostRuntime,
+    threads: &R,
+    line: &str,
+    out: O,
+) -> u8 {
+    let mut host = FileHost::over(rt, out, rt.stdout());
+    let status = command(threads, rt.alloc(), line, &mut host);
+    let _ = println!(rt; "status {status}");
+    0
+}
+
+// A command whose standard output takes no byte.
+fn full<R: Threads + Wait + Sync>(rt: &HostRuntime, threads: &R, line: &str) -> u8 {
+    match OpenOptions::new().append(true).open(rt, "/dev/full") {
+        Ok(out) => refused(rt, threads, line, out),
+        Err(_) => 5,
+    }
+}
+
+// Prints whether two files hold the same, and answers a status as a command does.
+fn same(rt: &HostRuntime, name: &str, other: &str) -> u8 {
+    let (Ok(bytes), Ok(others)) = (fs::read(rt, name), fs::read(rt, other)) else {
+        return 5;
+    };
+    let word = if bytes == others { "is" } else { "is not" };
+    let _ = println!(rt; "{name} {word} {other}");
+    0
+}
+
+// Does what a line says, and answers the status with which the program ends if it is not 0.
+fn make<R: Threads + Wait + Sync>(rt: &HostRuntime, threads: &R, line: Line) -> u8 {
+    match line {
+        Command(words) => {
+            let _ = println!(rt; "$ {words}");
+            command(threads, rt.alloc(), words, &mut FileHost::new(rt))
+        }
+        Exits(report) => {
+            let _ = println!(rt; "exit values in {report}:");
+            exits(rt, report)
+        }
+        Refused(words) => {
+            let _ = println!(rt; "$ {words}");
+            refused(rt, threads, words, rt.stdout())
+        }
+        Full(words) => {
+            let _ = println!(rt; "$ {words} >/dev/full");
+            full(rt, threads, words)
+        }
+        Same(name, other) => same(rt, name, other),
+    }
+}
+
+// Does the lines in order, up to the first that fails.
+fn make_all<R: Threads + Wait + Sync>(rt: &HostRuntime, threads: &R, lines: &[Line]) -> u8 {
+    for line in lines {
+        let status = make(rt, threads, *line);
         let _ = println!(rt; "");
         if status != 0 {
-            return ExitCode::from(status);
+            return status;
         }
     }
-    ExitCode::from(0)
+    0
+}
+
+fn main(rt: HostRuntime) -> ExitCode {
+    let status = make_all(&rt, &rt, &EXAMPLES);
+    if status != 0 {
+        return ExitCode::from(status);
+    }
+    if write_long_source(&rt).is_err() {
+        return ExitCode::from(6);
+    }
+    ExitCode::from(make_all(&rt, &rt, &EDGES))
 }

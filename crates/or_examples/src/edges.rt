@@ -1,0 +1,43 @@
+// Real files at their edges.
+use crate::Line;
+use Line::{Command, Full, Refused, Same};
+use std::io::{BufWriter, Write};
+use std::{fs, io};
+
+// `/dev/full` opens, and no byte can be written to it. A read of `/proc/self/pagemap` fails if its length is no multiple of
+// eight, as the last one up to the limit of an input is: one byte, behind a mebibyte that was read.
+pub(crate) const EDGES: [Line; 19] = [
+    Refused("run . - s r --ram 1"),
+    Refused("run hello.elf . s r --ram 1"),
+    Refused("run hello.elf /proc/self/pagemap s r --ram 1"),
+    Refused("run hello.elf - /dev/full r --ram 1"),
+    Refused("run hello.elf - s /dev/full --ram 1"),
+    Same("s", "hello.sched"),
+    Full("run hello.elf - s r --ram 1"),
+    Same("r", "hello.rep"),
+    Full("dis hello.elf"),
+    Refused("asm hello/hello.s /dev/full"),
+    Refused("gen 1 4 1000 hello"),
+    // 270004 words, which is more than a mebibyte, and as many turns of each core
+    Command("asm long.s long.elf"),
+    Command("run long.elf - s r --ram 2"),
+    Command("replay long.elf - s again.rep"),
+    Same("again.rep", "r"),
+    // on this seed each core moves by one turn
+    Command("hunt long.elf - s r --ram 2 --seed 348 --tries 1"),
+    Command("replay long.elf - s again.rep"),
+    Same("again.rep", "r"),
+    Refused("run long.elf - s r --ram 1"),
+];
+
+const WORDS: usize = 270_000;
+
+/// Writes `long.s`: 270000 instructions that do nothing, and a byte for the console.
+pub(crate) fn write_long_source(rt: &HostRuntime) -> io::Result<()> {
+    let mut file = BufWriter::new(rt.alloc(), fs::create(rt, "long.s")?)?;
+    for _ in 0..WORDS {
+        file.write_all(b"l.nop 0\n")?;
+    }
+    file.write_all(b"l.movhi r3,0x9000\nl.addi r4,r0,76\nl.sb 0(r3),r4\nl.nop 1\n")?;
+    file.flush()
+}
