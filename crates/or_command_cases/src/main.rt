@@ -16,7 +16,7 @@ use std::process::ExitCode;
 use std::sync::Wait;
 use std::thread::Threads;
 
-const FILES: [&str; 11] = [
+const FILES: [&str; 13] = [
     "host.cases",
     "images.cases",
     "line.cases",
@@ -28,6 +28,8 @@ const FILES: [&str; 11] = [
     "hunt.cases",
     "locks.cases",
     "messages.cases",
+    "worked.cases",
+    "hostile.cases",
 ];
 
 // Does what the lines of a file say.
