@@ -7,7 +7,8 @@
 //! bus back. So either the last try comes after that and finds the bus free, or the holder reads `SLEEPS`. It then wakes one
 //! sleeper, unless some waiter says `LOOKS`: that one tries once more after it says `SLEEPS`. A try that comes after the bus was
 //! given back fails only where another core has taken the bus, which gives it back in its turn, or where it is kept for a core
-//! that waits; this one is woken, if it sleeps.
+//! that waits; this one is woken, if it sleeps. No other core takes the bus meanwhile: a try reads the ticket before it reads for
+//! whom the bus is kept, so a try that read the latter too early draws a ticket that is no longer the next.
 use std::sync::Wait;
 use std::sync::atomic::{AtomicU64, Ordering};
 
