@@ -478,11 +478,11 @@ fn write_through(
     ensures bytes { ram.new ≡ record ram.old { bytes = stored ram.old.bytes pa width v } }
     ensures lines { AreWritten caches.old core pa v width cached caches.new }
 {
-    ram.write(pa, width, v);
     if cached {
         caches.update(core, pa, width, v);
     } else {
         caches.drop_line(core, pa);
     }
+    ram.write(pa, width, v);
     caches.snoop(core, pa);
 }

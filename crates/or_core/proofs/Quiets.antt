@@ -1,5 +1,5 @@
 -- Steps of a quiet core.
-use Rattle.std.proofs.Common.{◌≡◌, ℕ, ◌%◌, ◌<◌, Bool, true, false, cond, Option, Some, None, Ok, refl, ap, sym, ◌∙◌, subst, arith, rules}
+use Rattle.std.proofs.Common.{◌≡◌, ℕ, ◌%◌, ◌<◌, Bool, true, false, cond, Option, Some, None, Ok, Err, refl, ap, sym, ◌∙◌, subst, arith, rules}
 use Rattle.std.specs.Prelude.{not, is_some, option_map, IfOk, IfSome}
 use Rattle.std.specs.Option.{ForSome}
 use Rattle.std.proofs.lemmas.Bool.Decides.{nat_tests}
@@ -10,6 +10,7 @@ use Rattle.or_isa.specs.Fits.{Fits}
 use Rattle.or_isa.specs.Bus.{needs_bus_of}
 use Rattle.or_parts.specs.Lines.{held_word}
 use Rattle.or_parts.specs.declared.Cause.{Cause}
+use Rattle.or_parts.specs.declared.Cause.TheVariants.{Illegal}
 use Rattle.or_model.specs.declared.Route.TheVariants.{At}
 use Rattle.or_model.specs.Core.{Core}
 use Rattle.or_model.specs.Execute.{executed}
@@ -58,13 +59,16 @@ pub record IsPlainStep (old next : Core) : Type 0 where
   pub step : private_step old ≡ retired next
   pub control : SameControl old next
 
-pub plain_step : (old next : Core) (insn : Insn) → IsExecuted old (Some insn) → is_plain insn ≡ true → is_misplaced old insn ≡ false → executed insn old ≡ Ok next → IsPlainStep old next
+outcome-control : (core : Core) (insn : Insn) → is_plain insn ≡ true → IfOk (outcome core (Some insn)) (SameControl core)
+outcome-control core insn plain =
+    elim (is_misplaced core insn) as (λ b. IfOk (cond b (Err Illegal) (executed insn core)) (SameControl core)) [ true ↦ tt | false ↦ executed-control insn core plain ]
+
+pub plain_step : (old next : Core) (insn : Insn) → IsExecuted old (Some insn) → is_plain insn ≡ true → outcome old (Some insn) ≡ Ok next → IsPlainStep old next
 unfolding private_step step_off_bus
-plain_step old next insn executes plain placed is =
+plain_step old next insn executes plain is =
     let alone : needs_bus_of insn (spr_number old insn) ≡ false = plain-alone insn (spr_number old insn) plain in
-    let comes : outcome old (Some insn) ≡ Ok next = rw (placed, is) refl in
     record {
       alone = executes.alone ∙ ap not alone;
-      step = ap (λ s. s.core) (executes.state empty_world) ∙ rw alone (ap (λ r. completed r old) comes);
-      control = subst (λ r. IfOk r (SameControl old)) is (executed-control insn old plain);
+      step = ap (λ s. s.core) (executes.state empty_world) ∙ rw alone (ap (λ r. completed r old) is);
+      control = subst (λ r. IfOk r (SameControl old)) is (outcome-control old insn plain);
     }

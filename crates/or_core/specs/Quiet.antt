@@ -1,7 +1,7 @@
 -- When the steps of a core need no look at its timer, its interrupts and its translation.
 use Rattle.std.specs.Prelude.{◌≡◌, ◌/◌, Bool, true, false, not, ◌==◌, ◌&&◌, bit_and, Some}
 use Rattle.or_isa.specs.declared.Insn.{Insn}
-use Rattle.or_isa.specs.declared.Insn.TheVariants.{Nop, ReturnFromException, Load, LoadLinked, Store, StoreConditional, MoveToSpecial}
+use Rattle.or_isa.specs.declared.Insn.TheVariants.{Nop, SystemCall, Trap, ReturnFromException, Load, LoadLinked, Store, StoreConditional, MoveToSpecial}
 use Rattle.or_parts.specs.declared.status.TheConstants.{TEE, IEE, ICE, IME}
 use Rattle.or_parts.specs.Bits.{has}
 use Rattle.or_parts.specs.Timer.{is_tick_pending}
@@ -27,9 +27,11 @@ pub record SameControl (old new : Core) : Type 0 where
   pub status : bit_and new.sr 0x56 ≡ bit_and old.sr 0x56
   pub stop : new.stop ≡ old.stop
 
--- an instruction that asks nothing of the bus and writes none of that
+-- an instruction that asks nothing of the bus, writes none of that, and is no exception by itself
 abbrev pub is_plain : Insn → Bool
 is_plain (Nop k) = not (k == 1)
+is_plain (SystemCall k) = false
+is_plain (Trap k) = false
 is_plain ReturnFromException = false
 is_plain (Load width sign d a i) = false
 is_plain (LoadLinked d a i) = false

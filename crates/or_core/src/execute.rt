@@ -1,9 +1,11 @@
 //! Instructions that ask nothing of the bus (OpenRISC 1000 Architecture Manual, chapter 5, ORBIS32).
 
-ghost use Rattle.std.specs.Prelude.{◌≡◌, ◌<◌, MatchResult, OnErr, Ok, Err};
+ghost use Rattle.std.specs.Prelude.{◌≡◌, ◌<◌, MatchResult, OnErr, IfSome, IsNone, Ok, Err, Some, false, is_some};
 ghost use Rattle.or_isa.specs.Fits.{Fits, IsSigned};
-ghost use Rattle.or_model.specs.Execute.{executed, extension, on_registers, put_arithmetic, jumped, branched_on};
+ghost use Rattle.or_model.specs.Execute.{extension, on_registers, put_arithmetic, jumped, branched_on};
+ghost use Rattle.or_model.specs.Step.{outcome};
 ghost use Rattle.or_model.specs.Counts.{SameCounts};
+ghost use Rattle.or_core.specs.Quiet.{is_plain};
 
 use crate::state::Core;
 use or_isa::{ArithmeticKind, ImmediateKind, Insn};
@@ -11,108 +13,114 @@ use or_parts::Cause;
 use or_words::{ExtendKind, MacKind, Width};
 
 impl Core {
-    // Executes an instruction, or meets an exception and changes nothing. Those that ask the bus have
-    // no place here.
+    // Executes a plain instruction, or meets an exception and changes nothing. None changes nothing either: the
+    // instruction is not plain.
     #[inline(always)]
-    #[tactic(auto, unfolding(or_model::specs::Execute::executed))]
-    pub(crate) fn execute(&mut self, insn: Insn) -> Result<(), Cause>
+    #[tactic(auto, unfolding(or_model::specs::Execute::executed, or_model::specs::Execute::after_nop, or_model::specs::Step::is_misplaced))]
+    pub(crate) fn execute(&mut self, insn: Insn) -> Option<Result<(), Cause>>
         requires { Fits insn }
-        ensures outcome { MatchResult result (λ _. executed insn self.old ≡ Ok self.new) (λ e. executed insn self.old ≡ Err e) }
-        ensures err { OnErr result (self.new ≡ self.old) }
+        ensures plain { is_some result ≡ is_plain insn }
+        ensures outcome { IfSome result (λ made. MatchResult made (λ _. outcome self.old (Some insn) ≡ Ok self.new) (λ e. outcome self.old (Some insn) ≡ Err e)) }
+        ensures err { IfSome result (λ made. OnErr made (self.new ≡ self.old)) }
+        ensures none { IsNone result → self.new ≡ self.old }
         ensures counts { SameCounts self.old self.new }
     {
         match insn {
             Insn::Jump { link, n } => {
+                if self.is_in_slot() {
+                    return Some(Err(Cause::Illegal));
+                }
                 self.jump(link, self.destination(n));
-                Ok(())
+                Some(Ok(()))
             }
             Insn::Branch { on, n } => {
+                if self.is_in_slot() {
+                    return Some(Err(Cause::Illegal));
+                }
                 self.branch_on(on, n);
-                Ok(())
+                Some(Ok(()))
             }
             Insn::JumpRegister { link, b } => {
+                if self.is_in_slot() {
+                    return Some(Err(Cause::Illegal));
+                }
                 self.jump(link, self.register(b));
-                Ok(())
+                Some(Ok(()))
             }
             Insn::PageAddress { d, n } => {
                 self.put(d, self.page_address(n));
-                Ok(())
+                Some(Ok(()))
             }
             Insn::Nop { k } => {
-                self.nop(k);
-                Ok(())
+                if k == 1 {
+                    return None;
+                }
+                self.go_on();
+                Some(Ok(()))
             }
-            Insn::SystemCall { .. } => Err(Cause::Syscall),
-            Insn::Trap { .. } => Err(Cause::Trap),
             Insn::MoveHigh { d, k } => {
                 self.put(d, k * 65536);
-                Ok(())
+                Some(Ok(()))
             }
             Insn::TakeAccumulator { d } => {
                 self.take_accumulator(d);
-                Ok(())
+                Some(Ok(()))
             }
             Insn::Sync { .. } => {
                 self.go_on();
-                Ok(())
+                Some(Ok(()))
             }
-            Insn::ReturnFromException => {
-                self.leave();
-                Ok(())
-            }
-            Insn::ArithmeticImmediate { kind, d, a, i } => self.arithmetic_immediate(
+            Insn::ArithmeticImmediate { kind, d, a, i } => Some(self.arithmetic_immediate(
                 kind,
                 d,
                 self.register(a),
                 i.cast_unsigned(),
-            ),
+            )),
             Insn::AndImmediate { d, a, k } => {
                 self.put(d, self.register(a) & k);
-                Ok(())
+                Some(Ok(()))
             }
             Insn::OrImmediate { d, a, k } => {
                 self.put(d, self.register(a) | k);
-                Ok(())
+                Some(Ok(()))
             }
             Insn::MoveFromSpecial { d, a, k } => {
+                if !self.is_supervisor() {
+                    return Some(Err(Cause::Illegal));
+                }
                 self.put(d, self.special(self.register(a) | k));
-                Ok(())
-            }
-            Insn::MoveToSpecial { a, b, k } => {
-                self.set_special(self.register(a) | k, self.register(b));
-                self.go_on();
-                Ok(())
+                Some(Ok(()))
             }
             Insn::ShiftImmediate { kind, d, a, l } => {
                 self.put_shifted(d, kind, self.register(a), l);
-                Ok(())
+                Some(Ok(()))
             }
             Insn::Shift { kind, d, a, b } => {
                 self.put_shifted(d, kind, self.register(a), self.register(b));
-                Ok(())
+                Some(Ok(()))
             }
             Insn::CompareImmediate { code, a, i } => {
                 self.put_comparison(code, self.register(a), i.cast_unsigned());
-                Ok(())
+                Some(Ok(()))
             }
             Insn::Compare { code, a, b } => {
                 self.put_comparison(code, self.register(a), self.register(b));
-                Ok(())
+                Some(Ok(()))
             }
             Insn::AccumulateImmediate { a, i } => {
                 self.accumulate(MacKind::Plus, self.register(a), i.cast_unsigned());
-                Ok(())
+                Some(Ok(()))
             }
             Insn::Accumulate { kind, a, b } => {
                 self.accumulate(kind, self.register(a), self.register(b));
-                Ok(())
+                Some(Ok(()))
             }
-            Insn::Arithmetic { kind, d, a, b } => self.arithmetic(
+            Insn::Arithmetic { kind, d, a, b } => Some(self.arithmetic(
                 kind,
                 d,
                 self.register(a),
                 self.register(b),
-            ),
+            )),
             Insn::Extend {
                 width,
                 signed,
@@ -120,20 +128,58 @@ impl Core {
                 a,
             } => {
                 self.put_extended(d, extension(width, signed), self.register(a));
-                Ok(())
+                Some(Ok(()))
             }
             Insn::FindFirst { d, a } => {
                 self.put_lowest_one(d, self.register(a));
-                Ok(())
+                Some(Ok(()))
             }
             Insn::FindLast { d, a } => {
                 self.put_highest_one(d, self.register(a));
-                Ok(())
+                Some(Ok(()))
             }
-            Insn::Load { .. }
+            Insn::SystemCall { .. }
+            | Insn::Trap { .. }
+            | Insn::ReturnFromException
+            | Insn::MoveToSpecial { .. }
+            | Insn::Load { .. }
             | Insn::LoadLinked { .. }
             | Insn::Store { .. }
-            | Insn::StoreConditional { .. } => Err(Cause::Illegal),
+            | Insn::StoreConditional { .. } => None,
+        }
+    }
+
+    // Executes an instruction that is not plain, or meets an exception and changes nothing. Those that ask the bus have
+    // no place here.
+    #[inline(never)]
+    #[tactic(auto, unfolding(or_model::specs::Execute::executed))]
+    pub(crate) fn execute_rare(&mut self, insn: Insn) -> Result<(), Cause>
+        requires fits { Fits insn }
+        requires rare { is_plain insn ≡ false }
+        ensures outcome { MatchResult result (λ _. outcome self.old (Some insn) ≡ Ok self.new) (λ e. outcome self.old (Some insn) ≡ Err e) }
+        ensures err { OnErr result (self.new ≡ self.old) }
+        ensures counts { SameCounts self.old self.new }
+    {
+        if self.is_misplaced(&insn) {
+            return Err(Cause::Illegal);
+        }
+        match insn {
+            Insn::Nop { k } => {
+                self.nop(k);
+                Ok(())
+            }
+            Insn::SystemCall { .. } => Err(Cause::Syscall),
+            Insn::Trap { .. } => Err(Cause::Trap),
+            Insn::ReturnFromException => {
+                self.leave();
+                Ok(())
+            }
+            Insn::MoveToSpecial { a, b, k } => {
+                self.set_special(self.register(a) | k, self.register(b));
+                self.go_on();
+                Ok(())
+            }
+            _ => Err(Cause::Illegal),
         }
     }
 

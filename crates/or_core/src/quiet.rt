@@ -1,12 +1,12 @@
 //! Steps of a quiet core, whose timer stands still and which no interrupt may meet: a test before
 //! them all takes the place of tests before each.
 
-ghost use Rattle.std.specs.Prelude.{◌≡◌, ◌+◌, ◌-◌, ◌/◌, ◌<◌, ◌≤◌, true, false, None, Some, IfSome, IsTrue, IsFalse, if◌then◌else◌};
+ghost use Rattle.std.specs.Prelude.{◌≡◌, ◌≢◌, ◌+◌, ◌-◌, ◌/◌, ◌<◌, ◌≤◌, true, None, Some, IfSome, IsTrue, IsFalse};
 ghost use Rattle.or_model.specs.Step.{retired, is_private, private_step};
 ghost use Rattle.or_model.specs.Turn.{begun_within};
 ghost use Rattle.or_model.specs.Counts.{SameSettings};
 ghost use Rattle.or_core.specs.Next.{IsExecuted};
-ghost use Rattle.or_core.specs.Quiet.{IsQuiet, SameControl, is_plain, IsAhead};
+ghost use Rattle.or_core.specs.Quiet.{IsQuiet, SameControl, IsAhead};
 
 use crate::data_access::UNCACHED;
 use crate::state::{Core, has};
@@ -43,21 +43,15 @@ impl Stretch {
     }
 }
 
-// Whether an instruction asks nothing of the bus, and leaves a quiet core quiet.
-#[inline(always)]
-fn is_plain(insn: &Insn) -> bool
-    ensures { result ≡ is_plain insn.now }
-{
-    match insn {
-        Insn::Nop { k } => *k != 1,
-        Insn::ReturnFromException
-        | Insn::Load { .. }
-        | Insn::LoadLinked { .. }
-        | Insn::Store { .. }
-        | Insn::StoreConditional { .. }
-        | Insn::MoveToSpecial { .. } => false,
-        _ => true,
-    }
+/// What became of the next step of a quiet core.
+#[derive(Clone, Copy)]
+pub(crate) enum Tried {
+    /// It was made.
+    Made,
+    /// It enters an exception.
+    Raises,
+    /// Its instruction is not plain.
+    Rare,
 }
 
 impl Core {
@@ -102,31 +96,29 @@ impl Core {
         self.steps += 1;
     }
 
-    // Makes the next step of a quiet core, a plain instruction. False changes nothing: it may not stand
-    // where it does, or it meets an exception.
+    // Makes the next step of a quiet core, where its instruction is plain and meets no exception. Else nothing changes.
     #[inline(always)]
-    fn plain_step(&mut self, insn: Insn) -> bool
+    fn plain_step(&mut self, insn: Insn) -> Tried
         requires next { IsExecuted self.old (Some insn) }
-        requires plain { is_plain insn ≡ true }
         requires quiet { IsQuiet self.old }
         requires running { self.old.stop ≡ None }
         requires room { self.old.steps + 1 < self.old.budget }
-        ensures stepped { IsTrue result → (is_private self.old ≡ true) × (self.new ≡ private_step self.old) }
-        ensures stayed { IsFalse result → self.new ≡ self.old }
+        ensures made { result ≡ Tried.Made → (is_private self.old ≡ true) × (self.new ≡ private_step self.old) }
+        ensures steps { result ≡ Tried.Made → self.new.steps ≡ self.old.steps + 1 }
+        ensures stayed { result ≢ Tried.Made → self.new ≡ self.old }
         ensures quiet { IsQuiet self.new }
         ensures running { self.new.stop ≡ None }
         ensures settings { SameSettings self.old self.new }
-        ensures steps { self.new.steps ≡ self.old.steps + (if result then 1 else 0) }
     {
-        if self.is_misplaced(&insn) {
-            return false;
-        }
         match self.execute(insn) {
-            Ok(()) => {
-                self.count_plain();
-                true
-            }
-            Err(_) => false,
+            Some(made) => match made {
+                Ok(()) => {
+                    self.count_plain();
+                    Tried::Made
+                }
+                Err(_) => Tried::Raises,
+            },
+            None => Tried::Rare,
         }
     }
 
@@ -157,15 +149,16 @@ impl Core {
             let Some(Some(insn)) = self.quiet_insn() else {
                 return Stretch::of(made);
             };
-            if !is_plain(&insn) {
-                return Stretch {
-                    made,
-                    asks: self.is_asking(&insn),
-                    insn,
-                };
-            }
-            if !self.plain_step(insn) {
-                return Stretch::of(made);
+            match self.plain_step(insn) {
+                Tried::Made => {}
+                Tried::Raises => return Stretch::of(made),
+                Tried::Rare => {
+                    return Stretch {
+                        made,
+                        asks: self.is_asking(&insn),
+                        insn,
+                    };
+                }
             }
         }
         Stretch::of(room)

@@ -1,16 +1,16 @@
 //! What a core keeps, with its small changes.
 
-ghost use Rattle.std.specs.Prelude.{◌≡◌, ◌+◌, ◌≤◌, ◌<◌, None};
+ghost use Rattle.std.specs.Prelude.{◌≡◌, ◌+◌, ◌≤◌, ◌<◌, None, is_some};
 ghost use Rattle.or_words.specs.Settings.{Fits};
 ghost use Rattle.or_parts.specs.Bits.{has};
-ghost use Rattle.or_model.specs.Core.{register, set_register, reset_core, exception_entry, exception_return, next_instruction, branched};
+ghost use Rattle.or_model.specs.Core.{register, set_register, reset_core, exception_entry, exception_return, next_instruction, branched, is_supervisor};
 ghost use Rattle.or_model.specs.Step.{with_step_counted, retired, due_interrupt, with_line};
 ghost use Rattle.or_model.specs.Turn.{sampled};
 ghost use Rattle.or_model.specs.Counts.{SameCounts, SameSettings};
 
 use or_icache::ICache;
 use or_model::Stop;
-use or_parts::status::{IEE, TEE};
+use or_parts::status::{IEE, SM, TEE};
 use or_parts::{Cause, Place};
 use or_spr::Sprs;
 use or_tick_pic::{Pic, Tick};
@@ -234,6 +234,21 @@ impl Core {
             }
             None => self.pc = self.pc.wrapping_add(4),
         }
+    }
+
+    // Whether the next instruction stands in a delay slot.
+    #[inline(always)]
+    pub(crate) fn is_in_slot(&self) -> bool
+        ensures { result ≡ is_some self.now.branch }
+    {
+        self.branch.is_some()
+    }
+
+    #[inline(always)]
+    pub(crate) fn is_supervisor(&self) -> bool
+        ensures { result ≡ is_supervisor self.now }
+    {
+        has(self.sprs.sr(), SM)
     }
 
     // A jump: the next instruction stands in its delay slot.

@@ -59,10 +59,10 @@ impl Core {
     {
         match insn {
             Insn::Jump { .. } | Insn::Branch { .. } | Insn::JumpRegister { .. } => {
-                self.branch.is_some()
+                self.is_in_slot()
             }
-            Insn::ReturnFromException => self.branch.is_some() || !has(self.sprs.sr(), SM),
-            Insn::MoveFromSpecial { .. } | Insn::MoveToSpecial { .. } => !has(self.sprs.sr(), SM),
+            Insn::ReturnFromException => self.is_in_slot() || !self.is_supervisor(),
+            Insn::MoveFromSpecial { .. } | Insn::MoveToSpecial { .. } => !self.is_supervisor(),
             _ => false,
         }
     }
@@ -99,13 +99,10 @@ impl Core {
         ensures counts { SameCounts self.old self.new }
     {
         match insn {
-            Some(insn) => {
-                if self.is_misplaced(&insn) {
-                    Err(Cause::Illegal)
-                } else {
-                    self.execute(insn)
-                }
-            }
+            Some(insn) => match self.execute(insn) {
+                Some(made) => made,
+                None => self.execute_rare(insn),
+            },
             None => Err(Cause::Illegal),
         }
     }
@@ -127,6 +124,7 @@ impl Core {
     }
 
     // What an instruction that asks the bus comes to.
+    #[inline(never)]
     #[tactic(auto, unfolding(or_model::specs::Step::executed_on_bus))]
     fn attempt_on_bus(&mut self, bus: &mut Bus, insn: Insn) -> Result<(), Cause>
         requires fits { Fits insn }
@@ -179,7 +177,43 @@ impl Core {
         self.register(a).wrapping_add(i.cast_unsigned())
     }
 
+    // The same, with loads and stores of words in place: they are common.
+    #[inline(always)]
+    #[tactic(auto, using(crate::proofs::InPlace::words_in_place))]
+    fn attempt_in_place(&mut self, bus: &mut Bus, insn: Insn) -> Result<(), Cause>
+        requires fits { Fits insn }
+        requires known { self.old.number < bus.old.cores }
+        requires spare { 0 < bus.old.spare }
+        ensures outcome { (world : World) → Represents bus.old world → IsOutcome (outcome_on_bus self.old world insn) result self.new bus.new }
+        ensures err { OnErr result ((self.new ≡ self.old) × (bus.new ≡ bus.old)) }
+        ensures counts { SameCounts self.old self.new }
+        ensures access { (world : World) → Represents bus.old world → bus.new.last ≡ option_or (option_and_then (access_by self.old world) (memory_operand insn)) bus.old.last }
+        ensures bus { KeepsBus bus.old bus.new }
+    {
+        match insn {
+            Insn::Load {
+                width: Width::Word,
+                d,
+                a,
+                i,
+                ..
+            } => self.load(bus, d, Width::Word, ExtendKind::Whole, self.address(a, i)),
+            Insn::Store {
+                width: Width::Word,
+                a,
+                b,
+                i,
+            } => self.store(bus, self.register(b), Width::Word, self.address(a, i)),
+            _ => {
+                // A copy of its own, so that only this arm puts the instruction into memory.
+                let other = insn;
+                self.attempt_on_bus(bus, other)
+            }
+        }
+    }
+
     // One step by an instruction that asks the bus.
+    #[inline(always)]
     #[tactic(auto, unfolding(or_model::specs::Step::step_on_bus))]
     fn step_on_bus(&mut self, bus: &mut Bus, insn: Insn)
         requires fits { Fits insn }
@@ -192,7 +226,7 @@ impl Core {
         ensures access { (world : World) → Represents bus.old world → bus.new.last ≡ option_or (option_and_then (access_by self.old world) (memory_operand insn)) bus.old.last }
         ensures bus { KeepsBus bus.old bus.new }
     {
-        match self.attempt_on_bus(bus, insn) {
+        match self.attempt_in_place(bus, insn) {
             Ok(()) => self.retire(),
             Err(cause) => self.enter_step(cause),
         }
@@ -260,82 +294,6 @@ impl Core {
         }
     }
 
-    // One step by a load of a word.
-    #[inline(always)]
-    #[tactic(auto, using(crate::proofs::InPlace::load_in_place))]
-    fn step_load_word(&mut self, bus: &mut Bus, signed: bool, d: u32, a: u32, i: i32)
-        requires registers { (d < 32) × (a < 32) }
-        requires room { self.old.steps < self.old.budget }
-        requires known { self.old.number < bus.old.cores }
-        ensures state { (world : World) → Represents bus.old world → IsState (step_on_bus self.old world (Insn.Load Width.Word signed d a i)) self.new bus.new }
-        ensures settings { SameSettings self.old self.new }
-        ensures steps { self.new.steps ≡ self.old.steps + 1 }
-        ensures access { (world : World) → Represents bus.old world → bus.new.last ≡ option_or (option_and_then (access_by self.old world) (memory_operand (Insn.Load Width.Word signed d a i))) bus.old.last }
-        ensures bus { KeepsBus bus.old bus.new }
-    {
-        let to = self.address(a, i);
-        match self.load(bus, d, Width::Word, ExtendKind::Whole, to) {
-            Ok(()) => self.retire(),
-            Err(cause) => self.enter_step(cause),
-        }
-    }
-
-    // One step by a store of a word.
-    #[inline(always)]
-    fn step_store_word(&mut self, bus: &mut Bus, a: u32, b: u32, i: i32)
-        requires registers { (a < 32) × (b < 32) }
-        requires room { self.old.steps < self.old.budget }
-        requires known { self.old.number < bus.old.cores }
-        requires spare { 0 < bus.old.spare }
-        ensures state { (world : World) → Represents bus.old world → IsState (step_on_bus self.old world (Insn.Store Width.Word a b i)) self.new bus.new }
-        ensures settings { SameSettings self.old self.new }
-        ensures steps { self.new.steps ≡ self.old.steps + 1 }
-        ensures access { (world : World) → Represents bus.old world → bus.new.last ≡ option_or (option_and_then (access_by self.old world) (memory_operand (Insn.Store Width.Word a b i))) bus.old.last }
-        ensures bus { KeepsBus bus.old bus.new }
-    {
-        let value = self.register(b);
-        let to = self.address(a, i);
-        match self.store(bus, value, Width::Word, to) {
-            Ok(()) => self.retire(),
-            Err(cause) => self.enter_step(cause),
-        }
-    }
-
-    // One step by an instruction that asks the bus. Loads and stores of words are common, and are executed in place.
-    #[inline(always)]
-    fn step_in_place(&mut self, bus: &mut Bus, insn: Insn)
-        requires fits { Fits insn }
-        requires room { self.old.steps < self.old.budget }
-        requires known { self.old.number < bus.old.cores }
-        requires spare { 0 < bus.old.spare }
-        ensures state { (world : World) → Represents bus.old world → IsState (step_on_bus self.old world insn) self.new bus.new }
-        ensures settings { SameSettings self.old self.new }
-        ensures steps { self.new.steps ≡ self.old.steps + 1 }
-        ensures access { (world : World) → Represents bus.old world → bus.new.last ≡ option_or (option_and_then (access_by self.old world) (memory_operand insn)) bus.old.last }
-        ensures bus { KeepsBus bus.old bus.new }
-    {
-        match insn {
-            Insn::Load {
-                width: Width::Word,
-                signed,
-                d,
-                a,
-                i,
-            } => self.step_load_word(bus, signed, d, a, i),
-            Insn::Store {
-                width: Width::Word,
-                a,
-                b,
-                i,
-            } => self.step_store_word(bus, a, b, i),
-            _ => {
-                // A copy of its own, so that only this arm puts the instruction into memory.
-                let other = insn;
-                self.step_on_bus(bus, other)
-            }
-        }
-    }
-
     // Makes a step that is known to ask the bus.
     #[inline(always)]
     #[tactic(auto, using(crate::proofs::Nexts::step_ahead))]
@@ -351,7 +309,7 @@ impl Core {
         ensures bus { KeepsBus bus.old bus.new }
     {
         let _ = &self.steps;
-        self.step_in_place(bus, insn);
+        self.step_on_bus(bus, insn);
     }
 
     /// Makes one step: a retired instruction, or an exception entry. The steps rise by one.
