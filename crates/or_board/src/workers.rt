@@ -22,7 +22,7 @@ use std::thread;
 use std::thread::Threads;
 
 /// So often tries who waits for the bus, before it sleeps, where each thread has a processor.
-const LOOKS: u32 = 4000;
+const LOOKS: u32 = 8000;
 
 /// And so often where threads share a processor: trying for long takes the processor from the one that has the bus.
 const FEW_LOOKS: u32 = 300;

@@ -13,7 +13,7 @@ const FARTHEST: u32 = 16;
 
 /// Where a turn has left a core. A core that spins comes to one place again by the same access, and no word has been written
 /// since.
-#[derive(Clone, Copy, PartialEq, Eq)]
+#[derive(Clone, Copy)]
 struct Trace {
     pc: u32,
     last: Option<Access>,
@@ -46,6 +46,16 @@ impl Pace {
         }
     }
 
+    // Whether the last turn has left the core where the trace was taken. What differs most often is compared first.
+    fn is_seen(&self, core: &Core, bus: &Bus) -> bool {
+        match &self.seen {
+            Some(seen) => {
+                seen.writes == bus.writes() && seen.pc == core.place().pc && seen.last == bus.last()
+            }
+            None => false,
+        }
+    }
+
     /// A turn of the core has ended. A long turn leaves no trace: behind private steps the core may come to one place again
     /// without an access, and it waits for nobody. The distances between the traces grow, so that a loop of several accesses is
     /// found too.
@@ -56,15 +66,14 @@ impl Pace {
             self.spins = false;
             return;
         }
-        let trace = Trace {
-            pc: core.place().pc,
-            last: bus.last(),
-            writes: bus.writes(),
-        };
-        self.spins = self.seen == Some(trace);
+        self.spins = self.is_seen(core, bus);
         self.since = self.since.wrapping_add(1);
         if self.since >= self.distance {
-            self.seen = Some(trace);
+            self.seen = Some(Trace {
+                pc: core.place().pc,
+                last: bus.last(),
+                writes: bus.writes(),
+            });
             self.since = 0;
             self.distance = if self.distance < FARTHEST {
                 self.distance.wrapping_mul(2)
