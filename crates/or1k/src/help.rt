@@ -69,14 +69,15 @@ const COMMANDS: [Help; 11] = [
         name: "debug",
         words: "IMAGE INPUT SCHED SCRIPT",
         text: "    Checks a recorded run as replay does, and follows it as the lines of SCRIPT say: go, turn N, break C ADDR, watch ADDR,
-    regs C, mem ADDR N, lines C, last N. Writes what they show to standard output.
+    stores ADDR, regs C, mem ADDR N, lines C, last N. Writes what they show to standard output.
 ",
         example: "or1k debug program.elf - program.sched script",
     },
     Help {
         name: "back",
         words: "IMAGE INPUT SCHED SCRIPT [--every N]",
-        text: "    Follows a recorded run forward and back. SCRIPT has the lines of debug, back N (N turns back) and to N (to turn N).
+        text: "    Follows a recorded run forward and back. SCRIPT has the lines of debug, back N (N turns back), to N (to turn N) and
+    rgo (back to the last hit).
     --every N        turns between two checkpoints, 1 to 536870912, default 1048576
 ",
         example: "or1k back program.elf - program.sched script",

@@ -34,14 +34,14 @@ abbrev pub of_one_thread : Option Shown → Option Shown
 of_one_thread None = None
 of_one_thread (Some command) = if is_threaded command then None else Some command
 
--- the command that the words are, where it works cores on threads, and where it does not
+-- the command of a command line, if it runs cores on threads, and if it does not
 abbrev pub threaded_command : List (List ℕ) → Option Shown
 threaded_command words = of_threads (command_of words)
 
 abbrev pub lone_command : List (List ℕ) → Option Shown
 lone_command words = of_one_thread (command_of words)
 
--- words that are no command: that and why is said, and nothing else happens
+-- the command line is not valid: that and why is said, and nothing else happens
 pub record IsUsage (words : List (List ℕ)) (old new : HostState) : Type 0 where
   pub left : LeavesAll old new
   pub said : SaidLine (usage_lines (usage_sentence words)) old new
@@ -60,7 +60,7 @@ CommandEnds (back files script every) status old new = AnswersBy (back_loads fil
 CommandEnds (race files options) status old new = AnswersBy (race_loads files) (RaceVerdict files options) (RaceWrites files options) LeavesAll status old new
 CommandEnds (prof files) status old new = AnswersBy (prof_loads files) (ProfVerdict files) (ProfWrites files) LeavesAll status old new
 
--- where no fault came, the files decide the status, or memory ran out; of a run 15 may stand for 0 where that is asked for
+-- if no I/O error occurs, the file contents determine the status, unless memory runs out; of a run 15 may stand for 0 with --status
 abbrev pub IsComplete : Shown → ℕ → HostState → HostState → Type 0
 IsComplete (run names options) status old new = RunDecided names options status old new
 IsComplete (hunt names options) status old new = HuntDecided names options status old new

@@ -199,7 +199,7 @@ fn prof_command<H: Host>(alloc: Global, names: &Recorded<'_>, host: &mut H) -> u
     conclude(host, outcome)
 }
 
-// Says that the words are no command, and why.
+// Says that the command line is not valid, and why.
 fn refuse_words<H: Host>(words: &[String], host: &mut H) -> u8
     ensures status { result ≡ 2 }
     ensures usage { IsUsage (texts words.now) (H.state host.old) (H.state host.new) }
@@ -208,8 +208,8 @@ fn refuse_words<H: Host>(words: &[String], host: &mut H) -> u8
     2
 }
 
-/// Does what the words ask of the outside where that works cores on threads, `run` and `bench`, and answers the status as `top`
-/// does. All other words are no command of this call. It waits.
+/// Does the command of a command line if it runs cores on threads, `run` or `bench`, and answers the status as `top` does. For
+/// this call every other command line is not valid. It waits.
 pub fn top_run<R: Threads + Wait + Sync, H: Host, G: Gate + Sync>(
     rt: &R,
     alloc: Global,
@@ -235,8 +235,8 @@ pub fn top_run<R: Threads + Wait + Sync, H: Host, G: Gate + Sync>(
     }
 }
 
-/// Does what the words ask of the outside where that needs one thread alone, and answers the status as `top` does. All other
-/// words are no command of this call. It always returns.
+/// Does the command of a command line if it needs one thread alone, and answers the status as `top` does. For this call every
+/// other command line is not valid. It always returns.
 pub fn top_alone<H: Host>(alloc: Global, words: &[String], host: &mut H) -> u8
     ensures usage { (result ≡ 2) ↔ (lone_command (texts words.now) ≡ None) }
     ensures usage_line { lone_command (texts words.now) ≡ None → IsUsage (texts words.now) (H.state host.old) (H.state host.new) }
@@ -269,11 +269,11 @@ pub fn top_alone<H: Host>(alloc: Global, words: &[String], host: &mut H) -> u8
     }
 }
 
-/// Does what the words ask of the outside, and answers the status: 0 where all was done, 2 where the words are no command,
-/// 3 where the image has a fault, 4 where the recording is refused, 5 where a file was not read, 6 where an output was not
-/// written, 7 for want of memory, 8 where a file is too long, 9 where the source has a fault, 10 where the script has one,
-/// 12 where the symbols of a profiled image have one, 14 where no try of a hunt failed, 15 where all was done, a core failed and `--status` of `run` asks for that.
-/// The line of a status other than 0 and 15 is said, and behind it a sentence for people.
+/// Does the command of a command line, and answers the status: 0 if all was done, 2 if the command line is not valid, 3 if the
+/// image has a fault, 4 if the recording is refused, 5 if a file was not read, 6 if an output was not written, 7 if memory ran
+/// out, 8 if a file is too long, 9 if the source has a fault, 10 if the script has one, 12 if the symbols of a profiled image
+/// have one, 14 if no try of a hunt failed, 15 if all was done with `run --status` and a core failed. Of a status other than 0
+/// and 15 it says the line, and then a sentence for people.
 pub fn top<R: Threads + Wait + Sync, H: Host, G: Gate + Sync>(
     rt: &R,
     alloc: Global,

@@ -63,7 +63,7 @@ pub record RunAnswers (names : Names) (options : RunOptions) (status : ℕ) (old
   pub answers : Answers (run_loads names) (run_check names options.config) (RunWrites names options.config failed lines) LeavesAll plain old ended
   pub told : AreSaidBehind plain lines ended new
 
--- where no fault came, the files decide the status, or memory ran out; with `--status` 15 may stand for 0
+-- if no I/O error occurs, the file contents determine the status, unless memory runs out; with `--status` 15 may stand for 0
 pub record RunDecided (names : Names) (options : RunOptions) (status : ℕ) (old new : HostState) : Type 0 where
   pub failed : Bool
   pub lines : List ℕ
