@@ -7,3 +7,4 @@ pub mod Pairs
 pub mod NextPlace
 pub mod LabelNames
 pub mod SortedEntries
+pub mod ShownText

@@ -7,6 +7,7 @@ use Rattle.or_asm_read.specs.declared.fault.Fault.TheVariants as fault
 use Rattle.or_asm_read.specs.declared.statements.Statement.{Statement}
 use Rattle.or_asm_read.specs.declared.statements.Statement.TheVariants.{Nothing, Place, Word}
 use Rattle.or_asm_read.specs.Cuts.{is_clean, label_of, statement_of}
+use Rattle.or_asm_read.specs.AtFault.{word_at_fault}
 use Rattle.or_asm_read.specs.Faults.{lesser, number_of_fault}
 use Rattle.or_asm_read.specs.Labels.{Labels, place_of}
 use Rattle.or_asm_read.specs.Statements.{statement_at}
@@ -74,44 +75,57 @@ carried_out state labels_before (Err fault) = state
 unfoldable pub state_after : Labels → State → List ℕ → State
 state_after labels state line = carried_out state (state.labels_before + label_count (label_of line)) (statement_at labels state.place (statement_of line))
 
-abbrev pub unless_fault : ℕ → Option Fault → Result (List (ℕ × List ℕ)) (Fault × ℕ) → Result (List (ℕ × List ℕ)) (Fault × ℕ)
-unless_fault number None rest = rest
-unless_fault number (Some fault) rest = Err (fault, number)
+-- why a source has no program: the least fault of its first faulty line, the line, and the word that the fault is about
+pub record SourceFault : Type 0 where
+  pub fault : Fault
+  pub line : ℕ
+  pub word : List ℕ
+
+abbrev pub fault_at : Labels → ℕ → State → List ℕ → Fault → SourceFault
+fault_at labels number state line fault = record { fault = fault; line = number; word = word_at_fault labels state.place line fault }
+
+abbrev pub unless_fault : (Fault → SourceFault) → Option Fault → Result (List (ℕ × List ℕ)) SourceFault → Result (List (ℕ × List ℕ)) SourceFault
+unless_fault told None rest = rest
+unless_fault told (Some fault) rest = Err (told fault)
 
 -- the program of the lines from a state on, or the fault of the first line that has one
-abbrev pub source_from : Labels → ℕ → State → List (List ℕ) → Result (List (ℕ × List ℕ)) (Fault × ℕ)
+abbrev pub source_from : Labels → ℕ → State → List (List ℕ) → Result (List (ℕ × List ℕ)) SourceFault
 source_from labels number state [] = Ok state.pieces
-source_from labels number state (line ∷ lines) = unless_fault number (line_fault labels state line) (source_from labels (number + 1) (state_after labels state line) lines)
+source_from labels number state (line ∷ lines) =
+    unless_fault (fault_at labels number state line) (line_fault labels state line) (source_from labels (number + 1) (state_after labels state line) lines)
 
 abbrev pub initial_state : State
 initial_state = record { place = 0x100; labels_before = 0; begins_piece = true; pieces = [] }
 
-unfoldable pub source_of : List ℕ → Result (List (ℕ × List ℕ)) (Fault × ℕ)
+unfoldable pub source_of : List ℕ → Result (List (ℕ × List ℕ)) SourceFault
 source_of text = source_from (labels_from 0x100 (lines_of text)) 1 initial_state (lines_of text)
 
--- what an answer says of a source: the fault and its line, and nothing for want of memory
-abbrev pub refusal_of : AsmFault → Option (Fault × ℕ)
-refusal_of (answer.BadLine line) = Some (fault.BadLine, line)
-refusal_of (answer.UnknownName line) = Some (fault.UnknownName, line)
-refusal_of (answer.OutOfRange line) = Some (fault.OutOfRange, line)
-refusal_of (answer.UnknownLabel line) = Some (fault.UnknownLabel, line)
-refusal_of (answer.RepeatedLabel line) = Some (fault.RepeatedLabel, line)
-refusal_of (answer.Overlap line) = Some (fault.Overlap, line)
+abbrev pub source_fault : Fault → ℕ → List ℕ → SourceFault
+source_fault fault line word = record { fault = fault; line = line; word = word }
+
+-- what an answer says of a source, and nothing for want of memory
+abbrev pub refusal_of : AsmFault → Option SourceFault
+refusal_of (answer.BadLine line word) = Some (source_fault fault.BadLine line word.now)
+refusal_of (answer.UnknownName line word) = Some (source_fault fault.UnknownName line word.now)
+refusal_of (answer.OutOfRange line word) = Some (source_fault fault.OutOfRange line word.now)
+refusal_of (answer.UnknownLabel line word) = Some (source_fault fault.UnknownLabel line word.now)
+refusal_of (answer.RepeatedLabel line word) = Some (source_fault fault.RepeatedLabel line word.now)
+refusal_of (answer.Overlap line word) = Some (source_fault fault.Overlap line word.now)
 refusal_of answer.NoMemory = None
 
 -- the number of an answer, 1 to 7, and its line
 abbrev pub number_of_answer : AsmFault → ℕ
-number_of_answer answer = option_map_or (λ refusal. number_of_fault refusal.0) (refusal_of answer) 7
+number_of_answer answer = option_map_or (λ refusal. number_of_fault refusal.fault) (refusal_of answer) 7
 
 abbrev pub line_of_answer : AsmFault → Option ℕ
-line_of_answer answer = option_map (λ refusal. refusal.1) (refusal_of answer)
+line_of_answer answer = option_map (λ refusal. refusal.line) (refusal_of answer)
 
 -- a refusal is the source's own; want of memory says nothing of the source
-abbrev pub Refuses : AsmFault → Result (List (ℕ × List ℕ)) (Fault × ℕ) → Type 0
+abbrev pub Refuses : AsmFault → Result (List (ℕ × List ℕ)) SourceFault → Type 0
 Refuses answer source = MatchOption (refusal_of answer) (Unit {0}) (λ refusal. source ≡ Err refusal)
 
 -- an answer of the assembler, with what it leaves as the program
-abbrev pub Answers : {X : Type 0} → Result X AsmFault → List (ℕ × List ℕ) → Result (List (ℕ × List ℕ)) (Fault × ℕ) → Type 0
+abbrev pub Answers : {X : Type 0} → Result X AsmFault → List (ℕ × List ℕ) → Result (List (ℕ × List ℕ)) SourceFault → Type 0
 Answers (Ok _) program source = source ≡ Ok program
 Answers (Err answer) program source = Refuses answer source
 

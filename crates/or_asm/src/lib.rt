@@ -10,6 +10,7 @@ mod fault;
 mod lines;
 mod passes;
 mod pieces;
+mod shown;
 mod symbols;
 
 pub use fault::AsmFault;
@@ -23,7 +24,7 @@ pub use symbols::program_symbols;
 /// the first line that has one, or `NoMemory`; after a refusal the program is empty. A program has at most 64 pieces
 /// and at most 16000000 words.
 #[tactic(auto, using(crate::proofs::Bounds::bounds))]
-pub fn assemble(alloc: Global, text: &[u8], out: &mut Program) -> Result<(), AsmFault>
+pub fn assemble<'a>(alloc: Global, text: &'a [u8], out: &mut Program) -> Result<(), AsmFault<'a>>
     requires empty { out.old ≡ [] }
     requires limit { length text.now ≤ 4194304 }
     ensures source { Answers result out.new (source_of text.now) }

@@ -12,6 +12,7 @@ ghost use Rattle.or_asm.specs.Source.{fault_where, lesser_of, fault_in, repeats,
 use crate::fault::{AsmFault, at_line};
 use crate::lines::{cut_line, place_after, puts_word};
 use crate::pieces::{begin_piece, extend_last, is_covered};
+use or_asm_read::at_fault::word_at_fault;
 use or_asm_read::cuts::{is_clean, label, statement};
 use or_asm_read::fault::{Fault, lesser};
 use or_asm_read::labels::LabelTable;
@@ -232,7 +233,11 @@ fn next_progress(
 }
 
 // The pieces of a text's lines, whose labels are known, or its first fault.
-fn words_of(alloc: Global, labels: &LabelTable, text: &[u8]) -> Result<Vec<Piece>, AsmFault>
+fn words_of<'a>(
+    alloc: Global,
+    labels: &LabelTable,
+    text: &'a [u8],
+) -> Result<Vec<Piece>, AsmFault<'a>>
     requires { length text.now ≤ 4194304 }
     ensures program { IfOk result (λ pieces. source_from labels.now 1 initial_state (lines_of text.now) ≡ Ok pieces.items) }
     ensures refusal { IfErr result (λ answer. Refuses answer (source_from labels.now 1 initial_state (lines_of text.now))) }
@@ -248,7 +253,8 @@ fn words_of(alloc: Global, labels: &LabelTable, text: &[u8]) -> Result<Vec<Piece
     while !rest.is_empty() {
         let (line, others) = cut_line(rest);
         if let Some(fault) = line_fault(labels, &progress, line) {
-            return Err(at_line(fault, number));
+            let word = word_at_fault(labels, progress.place, line, fault);
+            return Err(at_line(fault, number, word));
         }
         progress = next_progress(alloc, labels, progress, line)?;
         number += 1;
@@ -259,7 +265,7 @@ fn words_of(alloc: Global, labels: &LabelTable, text: &[u8]) -> Result<Vec<Piece
 
 /// The pieces of a source, or its first fault.
 #[tactic(auto, unfolding(crate::specs::Source::source_of))]
-pub(crate) fn assembled(alloc: Global, text: &[u8]) -> Result<Vec<Piece>, AsmFault>
+pub(crate) fn assembled(alloc: Global, text: &[u8]) -> Result<Vec<Piece>, AsmFault<'_>>
     requires { length text.now ≤ 4194304 }
     ensures program { IfOk result (λ pieces. source_of text.now ≡ Ok pieces.items) }
     ensures refusal { IfErr result (λ answer. Refuses answer (source_of text.now)) }

@@ -16,7 +16,7 @@ use Rattle.or_asm_read.specs.Numbers.{number_of}
 use Rattle.or_asm_read.specs.Labels.{Labels}
 use Rattle.or_asm_read.specs.Statements.{org_at, named_at, statement_at}
 use Rattle.or_asm.specs.Lines.{lines_of, puts_word, place_after, with_label, labels_from}
-use Rattle.or_asm.specs.Source.{State, initial_state, fault_where, lesser_of, fault_in, repeats, lacks_room, overlaps, line_fault, label_count, carried_out, state_after, unless_fault, source_from, source_of}
+use Rattle.or_asm.specs.Source.{State, initial_state, fault_where, lesser_of, fault_in, repeats, lacks_room, overlaps, line_fault, label_count, carried_out, state_after, fault_at, unless_fault, source_from, source_of}
 use Rattle.or_asm_laws.specs.Numerals.{SpellsMagnitude, SpellsNumber}
 use Rattle.or_asm_laws.specs.SlotFits.{org_line}
 use Rattle.or_asm_laws.proofs.Numerals.{number_says}
@@ -94,7 +94,7 @@ one_step labels state line s c e =
 step_source : (labels : Labels) (number : ℕ) (state : State) (line : List ℕ) (lines : List (List ℕ)) (s : Statement) → Clear line → statement_at labels state.place line ≡ Ok s → lacks_room state line ≡ false → overlaps state line ≡ false
     → source_from labels number state (line ∷ lines) ≡ source_from labels (number + 1) (carried_out state (state.labels_before + 0) (Ok s)) lines
 step_source labels number state line lines s c e room free =
-    ap (λ v. unless_fault number v (source_from labels (number + 1) (state_after labels state line) lines)) (no_fault labels state line s c e room free)
+    ap (λ v. unless_fault (fault_at labels number state line) v (source_from labels (number + 1) (state_after labels state line) lines)) (no_fault labels state line s c e room free)
     ∙ ap (λ t. source_from labels (number + 1) t lines) (one_step labels state line s c e)
 
 abbrev placed_state : ℕ → State

@@ -6,7 +6,6 @@
 #![tactic(auto)]
 
 ghost use Rattle.std.specs.Prelude.{◌≡◌, ℕ, ℤ, pos, ◌%◌, ◌^◌, ◌<◌, [], ◌∷◌, ◌++◌, List, Option, Some, None, Ok, Err};
-ghost use Rattle.or_asm_read.specs.declared.fault.Fault.{Fault};
 ghost use Rattle.or_asm_read.specs.Cuts.{label_of, statement_of};
 ghost use Rattle.or_asm_laws.specs.Apart.{AllApart, AllInMemory};
 ghost use Rattle.or_asm_laws.specs.Grammar.{IsLine};
@@ -17,7 +16,7 @@ ghost use Rattle.or_asm.specs.Lines.{lines_of, place_after};
 ghost use Rattle.or_isa.specs.declared.Insn.{Insn};
 ghost use Rattle.or_isa.specs.Fits.{Fits};
 ghost use Rattle.or_isa.specs.Word.{word_of};
-ghost use Rattle.or_asm.specs.Source.{State, source_of, initial_state, state_after, line_fault};
+ghost use Rattle.or_asm.specs.Source.{State, SourceFault, source_of, initial_state, state_after, line_fault};
 ghost use Rattle.or_asm_laws.specs.SlotFits.{org_line};
 ghost use Rattle.or_text.specs.Hexadecimal.{hexadecimal};
 ghost use Rattle.or_asm_text.specs.Texts.{register_text, text_of};
@@ -40,10 +39,11 @@ pub fn prints_read_back()
         → source_of (org_line (hexadecimal p) ++ 10 ∷ text_of p i) ≡ Ok ((p, word_of i ∷ []) ∷ []) }
 {}
 
-/// The answer for a source is the least fault of the first line that has one, or what all its lines put.
+/// The answer for a source is the least fault of the first line that has one, with the word that it is about, or what all its
+/// lines put.
 pub fn first_fault_decides()
-    ensures refused { (text : List ℕ) (fault : Fault) (line : ℕ) → source_of text ≡ Err (fault, line) → IsFirstFault text fault line }
-    ensures only { (text : List ℕ) (fault : Fault) (line : ℕ) → IsFirstFault text fault line → source_of text ≡ Err (fault, line) }
+    ensures refused { (text : List ℕ) (refusal : SourceFault) → source_of text ≡ Err refusal → IsFirstFault text refusal }
+    ensures only { (text : List ℕ) (refusal : SourceFault) → IsFirstFault text refusal → source_of text ≡ Err refusal }
     ensures program { (text : List ℕ) (pieces : List (ℕ × List ℕ)) → source_of text ≡ Ok pieces → IsProgram text pieces }
 {}
 

@@ -9,7 +9,8 @@ fn is_blank(byte: u8) -> bool
     byte == b' ' || byte == b'\t'
 }
 
-fn is_allowed(byte: u8) -> bool
+/// Whether a line may have this byte outside its comment: printable ASCII, blanks and tabs.
+pub fn is_allowed(byte: u8) -> bool
     ensures { result ≡ is_allowed byte }
 {
     byte == b'\t' || (b' ' <= byte && byte < 127)

@@ -13,7 +13,7 @@ pub enum Fault {
     Overlap,
 }
 
-fn fault_number(fault: Fault) -> u8
+pub(crate) fn fault_number(fault: Fault) -> u8
     ensures { result ≡ number_of_fault fault }
 {
     match fault {

@@ -113,7 +113,7 @@ fn before_bracket(text: &[u8]) -> &[u8]
 }
 
 #[tactic(auto, unfolding(crate::specs::Operands::in_brackets))]
-fn in_brackets(text: &[u8]) -> &[u8]
+pub(crate) fn in_brackets(text: &[u8]) -> &[u8]
     ensures { result.now ≡ in_brackets text.now }
 {
     before(b')', after(b'(', text))
@@ -286,7 +286,12 @@ fn memory_at(text: &[u8]) -> Result<Operand, Fault>
 }
 
 #[tactic(auto, unfolding(crate::specs::Operands::slot_at))]
-fn slot_at(labels: &LabelTable, pc: u32, slot: Slot, text: &[u8]) -> Result<Operand, Fault>
+pub(crate) fn slot_at(
+    labels: &LabelTable,
+    pc: u32,
+    slot: Slot,
+    text: &[u8],
+) -> Result<Operand, Fault>
     ensures { result ≡ slot_at labels.now pc slot text.now }
 {
     match slot {

@@ -1,9 +1,8 @@
 -- From the parts of a bench to its outcome.
-use Rattle.std.proofs.Common.{◌≡◌, ◌≢◌, ℕ, List, Some, arith}
+use Rattle.std.proofs.Common.{◌≡◌, ◌≢◌, sym, ap, ℕ, List, Some, arith}
 use Rattle.std.specs.Prelude.{Result, Ok, Err}
 use Rattle.or_words.specs.Settings.{ram_bytes}
-use Rattle.or_asm_read.specs.declared.fault.Fault.{Fault}
-use Rattle.or_asm.specs.Source.{source_of}
+use Rattle.or_asm.specs.Source.{SourceFault, source_of}
 use Rattle.or_elf.specs.Text.{Piece, elf_text}
 use Rattle.or_elf.specs.Fault.{elf_fault}
 use Rattle.or_command_line.specs.declared.Workload.{Workload}
@@ -11,9 +10,7 @@ use Rattle.or_command.specs.Writes.{File}
 use Rattle.or_command.specs.Ends.{FailedCheck, CommandEnd, done, unread, too_long, refused, unwritten, no_memory}
 use Rattle.or_command.specs.Answered.{Stops}
 use Rattle.or_command.specs.Outcomes.{AreApart}
-use Rattle.or_command_source.specs.Assembly.{source_check}
-use Rattle.or_command_source.proofs.Ending.{source_status}
-use Rattle.or_command_run.specs.Bench.{bench_loads, bench_check, bench_config, bench_name, bench_source, program_check, BenchWrites}
+use Rattle.or_command_run.specs.Bench.{bench_loads, bench_check, bench_config, bench_name, bench_source, workload_told, workload_check, program_check, BenchWrites}
 use Rattle.or_command_image.proofs.Images.{image_status}
 
 -- no file is loaded that could be one of those that are written
@@ -21,14 +18,15 @@ pub bench_apart : (numbers : Workload) (schedule : List ℕ) (files : List (List
     → BenchWrites numbers schedule files outs console → AreApart bench_loads outs
 bench_apart numbers schedule files outs console writes = tt
 
-program_not_two : (numbers : Workload) (said : Result (List Piece) (Fault × ℕ)) (fault : FailedCheck) → program_check numbers said ≡ Some fault → fault.status ≢ 2
+program_not_two : (numbers : Workload) (said : Result (List Piece) SourceFault) (fault : FailedCheck) → program_check numbers said ≡ Some fault → fault.status ≢ 2
 program_not_two numbers (Ok program) fault found two =
     let three = image_status bench_name (elf_fault (elf_text program) (ram_bytes (bench_config numbers))) fault found in absurd (omega (arith, three, two))
 program_not_two numbers (Err refusal) fault found two =
-    let nine = source_status bench_name (Err refusal) fault found in absurd (omega (arith, nine, two))
+    let same : workload_told refusal ≡ fault = cc in
+    let nine : fault.status ≡ 9 = sym (ap (λ (f : FailedCheck). f.status) same) in absurd (omega (arith, nine, two))
 
 -- a source that has no program stops a bench
-pub program_stops : (numbers : Workload) (said : Result (List Piece) (Fault × ℕ)) (end : CommandEnd) → Stops (source_check bench_name said) end → Stops (program_check numbers said) end
+pub program_stops : (numbers : Workload) (said : Result (List Piece) SourceFault) (end : CommandEnd) → Stops (workload_check said) end → Stops (program_check numbers said) end
 program_stops numbers (Err refusal) end stops = stops
 program_stops numbers (Ok program) (refused fault) stops = absurd (let b : ⊥ = cc in b)
 program_stops numbers (Ok program) no_memory stops = stops

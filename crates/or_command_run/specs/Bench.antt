@@ -1,10 +1,10 @@
 -- What the command `bench` checks and writes. It loads no file: its source is the workload, and its image the file of the
 -- source's program.
-use Rattle.std.specs.Prelude.{◌≡◌, ℕ, List, [], ◌∷◌, ◌++◌, Option, Result, Ok, Err, false, codes, decimal}
+use Rattle.std.specs.Prelude.{◌≡◌, ℕ, List, [], ◌∷◌, ◌++◌, Option, Some, None, Result, Ok, Err, false, codes, decimal}
 use Rattle.or_words.specs.declared.Config.{Config}
 use Rattle.or_words.specs.Settings.{ram_bytes}
-use Rattle.or_asm_read.specs.declared.fault.Fault.{Fault}
-use Rattle.or_asm.specs.Source.{source_of}
+use Rattle.or_asm_read.specs.Faults.{number_of_fault}
+use Rattle.or_asm.specs.Source.{SourceFault, source_of}
 use Rattle.or_elf.specs.Text.{Piece, elf_text}
 use Rattle.or_elf.specs.Fault.{elf_fault}
 use Rattle.or_gen.specs.Workload.{workload}
@@ -15,8 +15,9 @@ use Rattle.or_command_line.specs.declared.Workload.{Workload}
 use Rattle.or_command.specs.Loads.{Load}
 use Rattle.or_command.specs.Writes.{File}
 use Rattle.or_command.specs.Ends.{FailedCheck}
+use Rattle.or_command.specs.Lines.{source_line}
 use Rattle.or_command_image.specs.Loaded.{image_check}
-use Rattle.or_command_source.specs.Assembly.{source_check, IsFileOf}
+use Rattle.or_command_source.specs.Assembly.{IsFileOf}
 use Rattle.or_command_image.specs.Opened.{head_of}
 use Rattle.or_command_run.specs.Recorded.{IsRecorded}
 
@@ -34,10 +35,22 @@ bench_config numbers = record { cores = numbers.cores; budget = 10000000; ram = 
 abbrev pub bench_name : List ℕ
 bench_name = codes "workload"
 
+-- The source is in no file of the user's, so the sentence names no word of it.
+abbrev pub workload_told : SourceFault → FailedCheck
+workload_told refusal = record {
+  status = 9;
+  line = source_line bench_name (number_of_fault refusal.fault) refusal.line;
+  sentence = codes "the workload does not assemble, which is a fault of or1k: please report it";
+}
+
+abbrev pub workload_check : Result (List Piece) SourceFault → Option FailedCheck
+workload_check (Ok program) = None
+workload_check (Err refusal) = Some (workload_told refusal)
+
 -- the source has a program, and the program's file no fault
-abbrev pub program_check : Workload → Result (List Piece) (Fault × ℕ) → Option FailedCheck
+abbrev pub program_check : Workload → Result (List Piece) SourceFault → Option FailedCheck
 program_check numbers (Ok program) = image_check bench_name (elf_fault (elf_text program) (ram_bytes (bench_config numbers)))
-program_check numbers (Err refusal) = source_check bench_name (Err refusal)
+program_check numbers (Err refusal) = workload_check (Err refusal)
 
 abbrev pub bench_check : Workload → List (List ℕ) → Option FailedCheck
 bench_check numbers files = program_check numbers (source_of (bench_source numbers))

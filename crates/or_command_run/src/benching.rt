@@ -1,5 +1,5 @@
 //! The command `bench`.
-ghost use Rattle.std.specs.Prelude.{false, ◌≡◌, ◌≤◌, ◌++◌, [], ◌∷◌, None, IfOk, MatchResult, OnOk, codes, decimal, length};
+ghost use Rattle.std.specs.Prelude.{false, ◌≡◌, ◌≤◌, ◌++◌, [], ◌∷◌, None, List, Result, IfOk, MatchResult, OnOk, codes, decimal, length};
 ghost use Rattle.or_sched.specs.Schedule.{IsSchedule, AreMarks};
 ghost use Rattle.or_model.specs.Turn.{Board as BoardModel};
 ghost use Rattle.or_replay.specs.Start.{start};
@@ -14,23 +14,24 @@ ghost use Rattle.or_command.specs.Leaves.{Silent};
 ghost use Rattle.or_command.specs.Ends.{end_of};
 ghost use Rattle.or_command.specs.Outcomes.{CommandOutcome, LeavesAll};
 ghost use Rattle.or_command.specs.Finishing.{WriteEnds};
-ghost use Rattle.or_command.specs.Answered.{FinishEnds};
-ghost use Rattle.or_asm.specs.Source.{source_of, Refuses};
+ghost use Rattle.or_command.specs.Answered.{FinishEnds, Stops};
+ghost use Rattle.or_elf.specs.Text.{Piece};
+ghost use Rattle.or_asm.specs.Source.{SourceFault, source_of, Refuses};
 ghost use Rattle.or_command_source.specs.Assembly.{IsFileOf};
 ghost use Rattle.or_command_image.specs.Opened.{head_of, RunFails};
-ghost use Rattle.or_command_run.specs.Bench.{bench_loads, bench_check, bench_config, bench_source, bench_text, IsBenchFrom, BenchWrites};
+ghost use Rattle.or_command_run.specs.Bench.{bench_loads, bench_check, bench_config, bench_source, bench_text, workload_check, IsBenchFrom, BenchWrites};
 
 use or_asm::AsmFault;
 use or_board::Gate;
-use or_command::{Outcome, Output, write_outputs};
+use or_command::{Outcome, Output, Refusal, write_outputs};
 use or_command_image::{head, refused};
 use or_command_line::Workload;
-use or_command_source::{program_file, refuse_source};
+use or_command_source::program_file;
 use or_gen::program;
 use or_host::Host;
 use or_replay::OpenFault;
 use or_sched::Head;
-use or_text::append_decimal;
+use or_text::{Sentence, append_decimal};
 use or_turn::Closed;
 use or_words::{Config, NoMemory};
 use std::alloc::{AllocError, Global};
@@ -167,16 +168,36 @@ fn finish<'a, R: Threads + Wait + Sync, H: Host, G: Gate + Sync>(
     }
 }
 
-// The image of a workload: its source, assembled.
-fn image(alloc: Global, workload: &Workload) -> Result<Vec<u8>, AsmFault>
+// How a workload that has no program ends a bench.
+fn refuse_workload(fault: AsmFault<'_>) -> Outcome<'static>
+    ensures { (source : Result (List Piece) SourceFault) → Refuses fault.entry source → Stops (workload_check source) (end_of result) }
+{
+    match fault.line() {
+        None => Outcome::NoMemory,
+        Some(line) => Outcome::Refused(Refusal::Source {
+            name: NAME,
+            fault: fault.number(),
+            line: u64::from(line),
+            why: Sentence::plain(
+                "the workload does not assemble, which is a fault of or1k: please report it",
+            ),
+        }),
+    }
+}
+
+// The image of a workload: its source, assembled; or how a bench without one ends.
+fn image(alloc: Global, workload: &Workload) -> Result<Vec<u8>, Outcome<'static>>
     requires numbers { FitsWorkload workload.now }
-    ensures file { MatchResult result (λ image. IsFileOf false (bench_source workload.now) image.items) (λ fault. Refuses fault (source_of (bench_source workload.now))) }
+    ensures file { MatchResult result (λ image. IsFileOf false (bench_source workload.now) image.items) (λ outcome. Stops (workload_check (source_of (bench_source workload.now))) (end_of outcome)) }
     ensures limit { IfOk result (λ image. length image.items ≤ IMAGE_LIMIT) }
 {
     let mut source = Vec::new(alloc);
     match program(workload.seed, workload.cores, workload.rounds, &mut source) {
-        Ok(()) => program_file(alloc, &source),
-        Err(NoMemory) => Err(AsmFault::NoMemory),
+        Ok(()) => match program_file(alloc, &source) {
+            Ok(file) => Ok(file),
+            Err(fault) => Err(refuse_workload(fault)),
+        },
+        Err(NoMemory) => Err(Outcome::NoMemory),
     }
 }
 
@@ -210,6 +231,6 @@ pub fn bench<'a, R: Threads + Wait + Sync, H: Host, G: Gate + Sync>(
             host,
             gate,
         ),
-        Err(fault) => refuse_source(NAME, fault),
+        Err(outcome) => outcome,
     }
 }

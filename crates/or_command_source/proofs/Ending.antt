@@ -1,8 +1,7 @@
 -- From how `asm` and `dis` end behind their loads to what they come to.
 use Rattle.std.proofs.Common.{◌≡◌, ◌≢◌, ◌∙◌, sym, ap, refl, subst, ℕ, Bool, List, [], ◌∷◌, ◌++◌, Option, Some, None, inl, inr, arith, append-nil, ◌≤◌, length}
 use Rattle.std.specs.Prelude.{Result, Ok, Err, ◌⊎◌}
-use Rattle.or_asm_read.specs.declared.fault.Fault.{Fault}
-use Rattle.or_asm.specs.Source.{source_of}
+use Rattle.or_asm.specs.Source.{SourceFault, source_of}
 use Rattle.or_elf.specs.declared.fault.ElfFault.{ElfFault}
 use Rattle.or_elf.specs.Fault.{elf_fault}
 use Rattle.or_elf.specs.Text.{Piece, word_count, elf_text}
@@ -28,7 +27,7 @@ pub asm_apart : (source image : List ℕ) (symbols : Bool) → image ≢ source 
     → AsmWrites image symbols files outs console → AreApart (asm_loads source) outs
 asm_apart source image symbols apart files outs console writes = subst (AreApart (asm_loads source)) (sym writes.outputs) ((λ e. apart (sym e), tt), tt)
 
-pub source_status : (name : List ℕ) (said : Result (List Piece) (Fault × ℕ)) (fault : FailedCheck) → source_check name said ≡ Some fault → fault.status ≡ 9
+pub source_status : (name : List ℕ) (said : Result (List Piece) SourceFault) (fault : FailedCheck) → source_check name said ≡ Some fault → fault.status ≡ 9
 source_status name (Ok program) fault e = absurd (let b : ⊥ = cc in b)
 source_status name (Err refusal) fault e =
     let same : source_told name refusal ≡ fault = cc in sym (ap (λ (f : FailedCheck). f.status) same)

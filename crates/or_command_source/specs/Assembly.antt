@@ -1,9 +1,8 @@
 -- What the command `asm` loads, checks and writes.
 use Rattle.std.specs.Prelude.{◌≡◌, ℕ, Bool, true, false, List, [], ◌∷◌, Option, Some, None, Result, Ok, Err}
 use Rattle.or_words.specs.declared.limits.TheConstants.{SOURCE_LIMIT}
-use Rattle.or_asm_read.specs.declared.fault.Fault.{Fault}
 use Rattle.or_asm_read.specs.Faults.{number_of_fault}
-use Rattle.or_asm.specs.Source.{source_of}
+use Rattle.or_asm.specs.Source.{SourceFault, source_of}
 use Rattle.or_asm.specs.First.{all_labels}
 use Rattle.or_asm.specs.Symbols.{symbols_of}
 use Rattle.or_asm.specs.Sentences.{source_sentence}
@@ -23,12 +22,12 @@ only_file [] = []
 only_file (file ∷ others) = file
 
 -- what is told of the least fault of a source's first faulty line
-abbrev pub source_told : List ℕ → Fault × ℕ → FailedCheck
+abbrev pub source_told : List ℕ → SourceFault → FailedCheck
 source_told name refusal =
-    record { status = 9; line = source_line name (number_of_fault refusal.0) refusal.1; sentence = source_sentence refusal.0 }
+    record { status = 9; line = source_line name (number_of_fault refusal.fault) refusal.line; sentence = source_sentence refusal }
 
 -- the check of a source
-abbrev pub source_check : List ℕ → Result (List Piece) (Fault × ℕ) → Option FailedCheck
+abbrev pub source_check : List ℕ → Result (List Piece) SourceFault → Option FailedCheck
 source_check name (Ok program) = None
 source_check name (Err refusal) = Some (source_told name refusal)
 

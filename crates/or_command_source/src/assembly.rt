@@ -1,8 +1,7 @@
 //! The command `asm`.
 ghost use Rattle.std.specs.Prelude.{◌≡◌, ◌≢◌, ◌≤◌, ℕ, true, false, List, Result, Ok, [], ◌∷◌, IfOk, MatchResult, length};
 ghost use Rattle.or_words.specs.declared.limits.TheConstants.{IMAGE_LIMIT};
-ghost use Rattle.or_asm_read.specs.declared.fault.Fault.{Fault};
-ghost use Rattle.or_asm.specs.Source.{source_of, Refuses};
+ghost use Rattle.or_asm.specs.Source.{SourceFault, source_of, Refuses};
 ghost use Rattle.or_elf.specs.Text.{Piece, word_count};
 ghost use Rattle.or_host.specs.Calls.{IsName};
 ghost use Rattle.or_command_line.specs.Names.{IsAssembly};
@@ -22,7 +21,7 @@ use or_words::limits::SOURCE_LIMIT;
 use std::alloc::Global;
 
 // The program of a source.
-fn program(alloc: Global, source: &[u8]) -> Result<Program, AsmFault>
+fn program(alloc: Global, source: &[u8]) -> Result<Program, AsmFault<'_>>
     requires limit { length source.now ≤ SOURCE_LIMIT }
     ensures said { MatchResult result (λ program. source_of source.now ≡ Ok program) (λ fault. Refuses fault (source_of source.now)) }
     ensures few { IfOk result (λ program. length program ≤ 64) }
@@ -39,7 +38,7 @@ fn program(alloc: Global, source: &[u8]) -> Result<Program, AsmFault>
 ///
 /// Errors: the least fault of the source's first faulty line; NoMemory.
 #[tactic(auto, using(crate::proofs::Ending::files))]
-pub fn program_file(alloc: Global, source: &[u8]) -> Result<Vec<u8>, AsmFault>
+pub fn program_file(alloc: Global, source: &[u8]) -> Result<Vec<u8>, AsmFault<'_>>
     requires limit { length source.now ≤ SOURCE_LIMIT }
     ensures file { MatchResult result (λ file. IsFileOf false source.now file.items) (λ fault. Refuses fault (source_of source.now)) }
     ensures small { IfOk result (λ file. length file.items ≤ IMAGE_LIMIT) }
@@ -53,7 +52,7 @@ pub fn program_file(alloc: Global, source: &[u8]) -> Result<Vec<u8>, AsmFault>
 }
 
 // The same with a symbol for each label.
-fn labelled_file(alloc: Global, source: &[u8]) -> Result<Vec<u8>, AsmFault>
+fn labelled_file(alloc: Global, source: &[u8]) -> Result<Vec<u8>, AsmFault<'_>>
     requires limit { length source.now ≤ SOURCE_LIMIT }
     ensures { MatchResult result (λ file. IsFileOf true source.now file.items) (λ fault. Refuses fault (source_of source.now)) }
 {
@@ -68,7 +67,7 @@ fn labelled_file(alloc: Global, source: &[u8]) -> Result<Vec<u8>, AsmFault>
     }
 }
 
-fn file_of(alloc: Global, source: &[u8], symbols: bool) -> Result<Vec<u8>, AsmFault>
+fn file_of(alloc: Global, source: &[u8], symbols: bool) -> Result<Vec<u8>, AsmFault<'_>>
     requires limit { length source.now ≤ SOURCE_LIMIT }
     ensures { MatchResult result (λ file. IsFileOf symbols source.now file.items) (λ fault. Refuses fault (source_of source.now)) }
 {
@@ -79,9 +78,9 @@ fn file_of(alloc: Global, source: &[u8], symbols: bool) -> Result<Vec<u8>, AsmFa
     }
 }
 
-/// How a source of this name that has no program ends a command.
-pub fn refuse_source(name: &str, fault: AsmFault) -> Outcome<'_>
-    ensures { (source : Result (List Piece) (Fault × ℕ)) → Refuses fault source → Stops (source_check name.now source) (end_of result) }
+// How a source of this name that has no program ends the command.
+fn refuse_source<'a>(name: &'a str, fault: AsmFault<'a>) -> Outcome<'a>
+    ensures { (source : Result (List Piece) SourceFault) → Refuses fault.entry source → Stops (source_check name.now source) (end_of result) }
 {
     match fault.line() {
         None => Outcome::NoMemory,
@@ -100,7 +99,7 @@ fn finish<'a, H: Host>(
     source: &'a str,
     image: &'a str,
     symbols: bool,
-    files: &[Vec<u8>],
+    files: &'a [Vec<u8>],
     host: &mut H,
 ) -> Outcome<'a>
     requires names { IsAssembly source.now image.now }
@@ -114,24 +113,25 @@ fn finish<'a, H: Host>(
     }
 }
 
-// Loads a source, and writes the file of its program.
+// Loads a source, and writes the file of its program. The files outlive the outcome, which may have a word of the source.
 fn assembled<'a, H: Host>(
     alloc: Global,
     source: &'a str,
     image: &'a str,
     symbols: bool,
+    files: &'a mut Vec<Vec<u8>>,
     host: &mut H,
 ) -> Outcome<'a>
     requires names { IsAssembly source.now image.now }
+    requires none { files.old.items ≡ [] }
     ensures outcome { CommandOutcome (asm_loads source.now) (asm_check source.now) (AsmWrites image.now symbols) LeavesAll (end_of result) (H.state host.old) (H.state host.new) }
     ensures silent { Silent (H.state host.old) (H.state host.new) }
 {
-    let mut files = Vec::new(alloc);
     let input = Input {
         name: source,
         limit: SOURCE_LIMIT,
     };
-    match load_files(alloc, host, &[input], &mut files) {
+    match load_files(alloc, host, &[input], files) {
         Ok(()) => finish(alloc, source, image, symbols, files.as_slice(), host),
         Err(LoadStop::Unread(name)) => Outcome::Unread(name),
         Err(LoadStop::TooLong(name, limit)) => Outcome::TooLong(name, limit),
@@ -150,6 +150,7 @@ pub fn asm<H: Host>(alloc: Global, source: &str, image: &str, symbols: bool, hos
     ensures decided { IsDecided (asm_loads source.now) (asm_check source.now) (AsmWrites image.now symbols) LeavesAll result (H.state host.old) (H.state host.new) }
     ensures command { result ≢ 2 }
 {
-    let outcome = assembled(alloc, source, image, symbols, host);
+    let mut files = Vec::new(alloc);
+    let outcome = assembled(alloc, source, image, symbols, &mut files, host);
     conclude(host, outcome)
 }

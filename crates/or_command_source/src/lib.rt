@@ -7,6 +7,6 @@ mod files;
 mod generation;
 mod listing;
 
-pub use assembly::{asm, program_file, refuse_source};
+pub use assembly::{asm, program_file};
 pub use disassembly::dis;
 pub use generation::generate;

@@ -1,5 +1,5 @@
 -- What is said to people of a fault of an image or of its symbols.
-use Rattle.std.specs.Prelude.{ℕ, ◌==◌, ◌++◌, if◌then◌else◌, List, codes, decimal}
+use Rattle.std.specs.Prelude.{ℕ, ◌==◌, ◌++◌, nat_le, if◌then◌else◌, List, codes, decimal}
 use Rattle.or_text.specs.Sentences.{address_text}
 use Rattle.or_elf.specs.declared.fault.ElfFault.{ElfFault}
 use Rattle.or_elf.specs.declared.fault.ElfFault.TheVariants.{Short, BadIdent, BadHeader, NoSegments, SegmentOutOfFile, SegmentOutOfRam, FileSizeOverMemSize}
@@ -33,6 +33,10 @@ field_wanted field =
     if field == 42 then codes ", not 32" else
     codes ", over 64"
 
+-- a board has at most 256 MiB of RAM, so that --ram helps a segment that ends there or below
+abbrev pub ram_remedy : ℕ → List ℕ
+ram_remedy end = if nat_le end 268435456 then codes ": use --ram" else codes ": link it below 10000000"
+
 abbrev pub elf_sentence : ElfFault → List ℕ
 elf_sentence (Short at) = codes "the file ends at byte " ++ decimal at ++ codes ", within its headers"
 elf_sentence (BadIdent at) = ident_words at
@@ -41,7 +45,7 @@ elf_sentence NoSegments = codes "no program header is of type 1: nothing is to b
 elf_sentence (SegmentOutOfFile index end size) =
     codes "segment " ++ decimal index ++ codes " ends at byte " ++ decimal end ++ codes ", the file at byte " ++ decimal size ++ codes ": is it cut off?"
 elf_sentence (SegmentOutOfRam index end ram) =
-    codes "segment " ++ decimal index ++ codes " ends at " ++ address_text end ++ codes ", RAM ends at " ++ address_text ram ++ codes ": use --ram"
+    codes "segment " ++ decimal index ++ codes " ends at " ++ address_text end ++ codes ", RAM ends at " ++ address_text ram ++ ram_remedy end
 elf_sentence (FileSizeOverMemSize index filesz memsz) =
     codes "segment " ++ decimal index ++ codes " has " ++ decimal filesz ++ codes " bytes in the file and " ++ decimal memsz ++ codes " in memory"
 

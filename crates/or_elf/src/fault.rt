@@ -1,6 +1,6 @@
 // Why a file is refused.
 ghost use Rattle.std.specs.Prelude.{◌≡◌};
-ghost use Rattle.or_elf.specs.Sentences.{ident_words, field_name, field_wanted};
+ghost use Rattle.or_elf.specs.Sentences.{ident_words, field_name, field_wanted, ram_remedy};
 
 use or_text::{Part, Sentence};
 use thiserror::Error;
@@ -103,7 +103,7 @@ impl ElfFault {
                 Part::Address(*end),
                 ", RAM ends at ",
                 Part::Address(u64::from(*ram)),
-                ": use --ram",
+                ram_remedy(*end),
             ),
             ElfFault::FileSizeOverMemSize {
                 index,
@@ -159,5 +159,16 @@ fn field_wanted(field: u32) -> &'static str
         40 => ", not 52",
         42 => ", not 32",
         _ => ", over 64",
+    }
+}
+
+// What helps a segment that ends outside of RAM.
+fn ram_remedy(end: u64) -> &'static str
+    ensures { result.now ≡ ram_remedy end }
+{
+    if end <= 268_435_456 {
+        ": use --ram"
+    } else {
+        ": link it below 10000000"
     }
 }

@@ -22,8 +22,8 @@ returns-in-Err-clause-outcome g c =
     let numbers = c.args.workload.now in
     let schedule = c.args.schedule.now in
     let a = g.H.Host.state c.args.host.now in
-    let end = end_of c.refuse_source.result in
+    let end = end_of c.in-Err.outcome in
     let source = source_of (bench_source numbers) in
     goes_on bench_loads (bench_check numbers) (BenchWrites numbers schedule) (bench_apart numbers schedule) [] [] end a a a refl (none_loaded a)
     (stops_end (bench_check numbers) (BenchWrites numbers schedule) [] end a
-    (program_stops numbers source end (c.refuse_source.ensures source c.in-Err.ensures.file)))
+    (program_stops numbers source end c.in-Err.ensures.file))

@@ -15,8 +15,8 @@ returns-in-Ok-clause-outcome g c =
     let image = c.args.image.now in
     let symbols = c.args.symbols in
     goes_on (asm_loads source) (asm_check source) (AsmWrites image symbols) (asm_apart source image symbols c.requires.names.apart)
-    (bytes_of c.new-files.result.items) (bytes_of c.load_files.new.into.items) (end_of c.finish.result)
+    (bytes_of c.args.files.now.items) (bytes_of c.load_files.new.into.items) (end_of c.finish.result)
     (g.H.Host.state c.args.host.now) (g.H.Host.state c.load_files.new.host) (g.H.Host.state c.finish.new.host)
-    (ap bytes_of c.new-files.ensures.items) c.in-Ok.ensures.files
+    (ap bytes_of c.requires.none) c.in-Ok.ensures.files
     (subst (λ (files : List (Vec ℕ Global)). FinishEnds (asm_check source) (AsmWrites image symbols) (bytes_of files) (end_of c.finish.result)
     (g.H.Host.state c.load_files.new.host) (g.H.Host.state c.finish.new.host)) c.as_slice.ensures.value c.finish.ensures.outcome)
