@@ -157,6 +157,27 @@ impl Core {
         self.end(bus, begun);
     }
 
+    /// Makes one turn as `turn` does, and answers the pc behind its private steps: that of the step on the bus, if one
+    /// follows them.
+    #[tactic(auto, using(crate::proofs::Progress::turn_progress), unfolding(or_model::specs::Turn::turn, crate::specs::Access::turn_access))]
+    pub fn turn_placed(&mut self, bus: &mut Bus) -> u32
+        requires running { self.old.stop ≡ None }
+        requires known { self.old.number < bus.old.cores }
+        requires spare { 0 < bus.old.spare }
+        ensures state { (world : World) → Represents bus.old world → IsState (turn self.old world) self.new bus.new }
+        ensures settings { SameSettings self.old self.new }
+        ensures progress { self.old.steps < self.new.steps }
+        ensures access { (world : World) → Represents bus.old world → bus.new.last ≡ option_or (turn_access self.old world) bus.old.last }
+        ensures bus { KeepsBus bus.old bus.new }
+        ensures pc { result ≡ (turn_begun self.old).core.pc }
+    {
+        let _ = &self.steps;
+        let begun = self.begin();
+        let pc = self.pc();
+        self.end(bus, begun);
+        pc
+    }
+
     /// Makes one turn as `turn` does, and lists in `trace`, which is empty before, the pc before each of
     /// its 1 to 256 steps, in their order.
     #[tactic(auto, using(crate::proofs::Progress::turn_progress), unfolding(or_model::specs::Turn::turn, crate::specs::Access::turn_access, or_model::specs::Trace::turn_trace))]
