@@ -1,5 +1,5 @@
 -- How long a file is from one of its labels on, and how many labels there are.
-use Rattle.std.proofs.Common.{◌≡◌, ◌∙◌, ◌≤◌, ◌<◌, ap, sym, arith, ℕ, suc, ◌+◌, List, ◌∷◌, [], ◌++◌, length, drop, slice_index_or, length-append, append_assoc}
+use Rattle.std.proofs.Common.{◌≡◌, ◌∙◌, ◌≤◌, ◌<◌, ap, sym, arith, ℕ, suc, ◌+◌, List, ◌∷◌, [], ◌++◌, length, drop, slice_index_or}
 use Rattle.std.proofs.Math.Seq.{drop-cons}
 use Rattle.std.proofs.lemmas.List.{drop_all}
 use Rattle.std.proofs.lemmas.List.Sums.{sum_by-cons}

@@ -1,5 +1,5 @@
 -- How long a file is from one of its pieces on.
-use Rattle.std.proofs.Common.{◌≡◌, ◌∙◌, ap, sym, arith, ℕ, ◌+◌, List, ◌∷◌, [], ◌++◌, length, length-append}
+use Rattle.std.proofs.Common.{◌≡◌, ◌∙◌, ap, sym, arith, ℕ, ◌+◌, List, ◌∷◌, ◌++◌, length, length-append}
 use Rattle.or_elf.specs.Text.{Piece, piece_size, words_text, pieces_text, program_header, program_headers}
 
 pub headers_from : (offset : ℕ) (pieces : List Piece) (piece : Piece) (others : List Piece) (before whole : List ℕ) → pieces ≡ piece ∷ others

@@ -1,12 +1,12 @@
--- The functions that a file's symbol table names (ELF gABI, "Section Header", "Symbol Table" and "String Table").
-use Rattle.std.specs.Prelude.{ℕ, ◌+◌, ◌*◌, ◌/◌, ◌%◌, ◌<◌, ◌≤◌, ◌==◌, Bool, not, ◌&&◌, nat_lt, nat_le, List, [], ◌∷◌, map, length, slice_index, drop, if◌then◌else◌, Option, Some, None}
+-- The functions and objects that a file's symbol table names (ELF gABI, "Section Header", "Symbol Table" and "String Table").
+use Rattle.std.specs.Prelude.{ℕ, ◌+◌, ◌-◌, ◌*◌, ◌/◌, ◌%◌, ◌<◌, ◌≤◌, ◌==◌, Bool, not, ◌&&◌, nat_lt, nat_le, List, [], ◌∷◌, ◌++◌, map, length, slice_index, drop, if◌then◌else◌, Option, Some, None, codes, decimal}
 use Rattle.std.specs.List.{filter, find, list_any, range_with_len}
 use Rattle.std.specs.Option.{option_map}
 use Rattle.or_words.specs.declared.limits.TheConstants.{IMAGE_LIMIT}
 use Rattle.or_elf.specs.declared.symbol_fault.SymFault.{SymFault}
 use Rattle.or_elf.specs.declared.symbol_fault.SymFault.TheVariants.{BadSections, BadTable, BadName, NoMemory}
 use Rattle.or_elf.specs.declared.sections.Section.{Section}
-use Rattle.or_elf.specs.declared.symbols.Function.{Function}
+use Rattle.or_elf.specs.declared.symbols.Symbol.{Symbol}
 use Rattle.or_elf.specs.Header.{half_at, word_at}
 use Rattle.or_elf.specs.Fault.{or_else}
 use Rattle.or_elf.specs.Loading.{part}
@@ -65,25 +65,36 @@ names_of bytes table = part bytes (linked bytes table).offset (linked bytes tabl
 abbrev pub symbol_start : ℕ → ℕ → ℕ
 symbol_start first index = first + 16 * index
 
--- the symbol that starts here has type 2, STT_FUNC, and has bytes
-abbrev pub is_function : List ℕ → ℕ → Bool
-is_function bytes start = (slice_index bytes (start + 12) % 16 == 2) && not (word_at bytes (start + 8) == 0)
+-- the types of symbols that name data and functions
+abbrev pub object_type : ℕ
+object_type = 1
 
-abbrev pub function_at : List ℕ → ℕ → ℕ → Function
-function_at bytes first index = let start = symbol_start first index in record {
+abbrev pub function_type : ℕ
+function_type = 2
+
+-- the symbol that starts here is of this type, and has bytes
+abbrev pub is_of_type : ℕ → List ℕ → ℕ → Bool
+is_of_type kind bytes start = (slice_index bytes (start + 12) % 16 == kind) && not (word_at bytes (start + 8) == 0)
+
+abbrev pub symbol_at : List ℕ → ℕ → ℕ → Symbol
+symbol_at bytes first index = let start = symbol_start first index in record {
   index = index;
   name = word_at bytes start;
   value = word_at bytes (start + 4);
   size = word_at bytes (start + 8);
 }
 
--- the functions among so many symbols, from this index on, of a table that starts here
-unfoldable pub functions_among : List ℕ → ℕ → ℕ → ℕ → List Function
-functions_among bytes first index count =
-    map (function_at bytes first) (filter (λ index. is_function bytes (symbol_start first index)) (range_with_len index count))
+-- the symbols of a type among so many, from this index on, of a table that starts here
+unfoldable pub symbols_among : ℕ → List ℕ → ℕ → ℕ → ℕ → List Symbol
+symbols_among kind bytes first index count =
+    map (symbol_at bytes first) (filter (λ index. is_of_type kind bytes (symbol_start first index)) (range_with_len index count))
 
-abbrev pub functions_of : List ℕ → ℕ → List Function
-functions_of bytes table = let section = section_at bytes table in functions_among bytes section.offset 0 (section.size / 16)
+-- all symbols of a type in the symbol table of this section
+abbrev pub symbols_of_type : ℕ → List ℕ → ℕ → List Symbol
+symbols_of_type kind bytes table = let section = section_at bytes table in symbols_among kind bytes section.offset 0 (section.size / 16)
+
+abbrev pub functions_of : List ℕ → ℕ → List Symbol
+functions_of bytes table = symbols_of_type function_type bytes table
 
 -- 1: section headers have 40 bytes each, and end within the file
 abbrev pub sections_fault : List ℕ → Option SymFault
@@ -105,8 +116,16 @@ table_fault bytes table = let section = section_at bytes table in
 abbrev pub has_end : List ℕ → ℕ → Bool
 has_end names start = list_any (λ byte. byte == 0) (drop start names)
 
+-- the symbols whose names are whole
+unfoldable pub with_names : List ℕ → List Symbol → List Symbol
+with_names names symbols = filter (λ symbol. has_end names symbol.name) symbols
+
+-- the objects; one whose name is not whole is none
+abbrev pub objects_of : List ℕ → ℕ → List Symbol
+objects_of bytes table = with_names (names_of bytes table) (symbols_of_type object_type bytes table)
+
 -- 3: the first function whose name starts or ends outside the section of names
-abbrev pub names_fault : List ℕ → List Function → Option SymFault
+abbrev pub names_fault : List ℕ → List Symbol → Option SymFault
 names_fault names [] = None
 names_fault names (function ∷ others) =
     or_else (if has_end names function.name then None else Some (BadName function.index)) (names_fault names others)
@@ -133,40 +152,49 @@ pub record HasTable (bytes : List ℕ) (table : ℕ) : Type 0 where
   pub link : (section_at bytes table).link < section_count bytes
   pub names : (linked bytes table).offset + (linked bytes table).size ≤ length bytes
 
--- the functions that are named, and the bytes of their names
+-- the functions and objects that are named, and the bytes of their names
 pub record SymbolTable : Type 0 where
-  pub functions : List Function
+  pub functions : List Symbol
+  pub objects : List Symbol
   pub names : List ℕ
 
 abbrev pub no_symbols : SymbolTable
-no_symbols = record { functions = []; names = [] }
+no_symbols = record { functions = []; objects = []; names = [] }
 
 abbrev pub symbols_in : List ℕ → Option ℕ → SymbolTable
 symbols_in bytes None = no_symbols
-symbols_in bytes (Some table) = record { functions = functions_of bytes table; names = names_of bytes table }
+symbols_in bytes (Some table) = record { functions = functions_of bytes table; objects = objects_of bytes table; names = names_of bytes table }
 
 -- the symbols of a file without such a fault
 unfoldable pub symbols_of : List ℕ → SymbolTable
 symbols_of bytes = if has_sections bytes then symbols_in bytes (symbol_table bytes) else no_symbols
 
--- a function has its bytes around this address
-abbrev pub covers : ℕ → Function → Bool
-covers pc function = nat_le function.value pc && nat_lt pc (function.value + function.size)
+-- a symbol has one of so many bytes from this address on
+abbrev pub covers : ℕ → ℕ → Symbol → Bool
+covers address count symbol = nat_lt symbol.value (address + count) && nat_lt address (symbol.value + symbol.size)
 
--- of two functions that may be there, the one that starts later; of two that start together, the first
-abbrev pub later_start : Option Function → Option Function → Option Function
+-- of two symbols that may be there, the one that starts later; of two that start together, the first
+abbrev pub later_start : Option Symbol → Option Symbol → Option Symbol
 later_start None second = second
 later_start (Some first) None = Some first
 later_start (Some first) (Some second) = if nat_lt first.value second.value then Some second else Some first
 
--- of the functions that cover this address, the one that starts last, and of these the first in the table
-unfoldable pub innermost : List Function → ℕ → Option Function
-innermost [] pc = None
-innermost (function ∷ others) pc = later_start (if covers pc function then Some function else None) (innermost others pc)
+-- of the symbols that have one of these bytes, the one that starts last, and of these the first in the table
+unfoldable pub innermost : List Symbol → ℕ → ℕ → Option Symbol
+innermost [] address count = None
+innermost (symbol ∷ others) address count = later_start (if covers address count symbol then Some symbol else None) (innermost others address count)
 
--- the index of that function
+-- the function that has its bytes around this address
+abbrev pub function_around : SymbolTable → ℕ → Option Symbol
+function_around symbols pc = innermost symbols.functions pc 1
+
+-- its index
 abbrev pub function_of : SymbolTable → ℕ → Option ℕ
-function_of symbols pc = option_map (λ (function : Function). function.index) (innermost symbols.functions pc)
+function_of symbols pc = option_map (λ (function : Symbol). function.index) (function_around symbols pc)
+
+-- the object that a byte of the word at this address lies in
+abbrev pub object_of : SymbolTable → ℕ → Option Symbol
+object_of symbols word = innermost symbols.objects word 4
 
 -- a byte of a name as it is shown: `?` outside the visible characters of ASCII
 abbrev pub shown : ℕ → ℕ
@@ -177,10 +205,30 @@ unfoldable pub name_text : List ℕ → List ℕ
 name_text [] = []
 name_text (byte ∷ others) = if byte == 0 then [] else shown byte ∷ name_text others
 
-abbrev pub name_of : List ℕ → Option Function → List ℕ
+abbrev pub name_of : List ℕ → Option Symbol → List ℕ
 name_of names None = []
-name_of names (Some function) = name_text (drop function.name names)
+name_of names (Some symbol) = name_text (drop symbol.name names)
 
 -- the name of the function with this index
 abbrev pub symbol_name : SymbolTable → ℕ → List ℕ
-symbol_name symbols index = name_of symbols.names (find (λ (function : Function). function.index == index) symbols.functions)
+symbol_name symbols index = name_of symbols.names (find (λ (function : Symbol). function.index == index) symbols.functions)
+
+-- `NAME+N`: an address by a symbol's name and its distance from the symbol's start, 0 before that
+abbrev pub offset_text : List ℕ → Symbol → ℕ → List ℕ
+offset_text names symbol address = name_text (drop symbol.name names) ++ codes "+" ++ decimal (address - symbol.value)
+
+abbrev pub place_in : List ℕ → Option Symbol → ℕ → List ℕ
+place_in names None pc = []
+place_in names (Some function) pc = codes "<" ++ offset_text names function pc ++ codes ">"
+
+-- `<NAME+N>`: an address in a function, and nothing elsewhere
+abbrev pub place_text : SymbolTable → ℕ → List ℕ
+place_text symbols pc = place_in symbols.names (function_around symbols pc) pc
+
+abbrev pub object_in : List ℕ → Option Symbol → ℕ → List ℕ
+object_in names None word = []
+object_in names (Some object) word = codes " in " ++ offset_text names object word
+
+-- ` in NAME+N`: the address of a word that an object has a byte of, and nothing elsewhere
+abbrev pub object_text : SymbolTable → ℕ → List ℕ
+object_text symbols word = object_in symbols.names (object_of symbols word) word

@@ -19,5 +19,5 @@ pub use label_writer::{Label, write_labelled};
 pub use reader::read;
 pub use segment::Segment;
 pub use symbol_fault::SymFault;
-pub use symbols::{Function, Symbols};
+pub use symbols::{Symbol, Symbols};
 pub use writer::write;

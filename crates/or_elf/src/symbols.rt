@@ -1,20 +1,26 @@
-// The functions that a file's symbol table names.
+// The functions and objects that a file's symbol table names.
 ghost use Rattle.std.specs.Prelude.{◌≡◌, ◌⊎◌, ◌≤◌, ◌<◌, ◌+◌, ◌*◌, ◌==◌, ◌++◌, Some, None, length, take, drop, MatchResult, IfOk, OnOk, OnErr, if◌then◌else◌, ◌^◌};
 ghost use Rattle.or_elf.specs.Header.{word_at};
 ghost use Rattle.std.specs.List.{find, list_any};
 ghost use Rattle.or_words.specs.declared.limits.TheConstants.{IMAGE_LIMIT};
-ghost use Rattle.or_elf.specs.Symbols.{section_count, symbol_fault, symbols_of, contents_fault, symbol_table, symbols_in, no_symbols, HasSections, HasTable, is_function, symbol_start, function_at, functions_among, functions_of, names_fault, has_end, covers, later_start, innermost, function_of, shown, name_text, symbol_name};
+ghost use Rattle.or_elf.specs.Symbols.{section_count, symbol_fault, symbols_of, contents_fault, symbol_table, symbols_in, no_symbols, HasSections, HasTable, is_of_type, symbol_start, symbol_at, symbols_among, symbols_of_type, with_names, names_fault, has_end, covers, later_start, innermost, function_around, function_of, object_of, shown, name_text, symbol_name, offset_text, place_text, object_text};
 
 use crate::SymFault;
 use crate::fields::word;
 use crate::sections::{check_sections, check_table, has_sections, names, section_at, symbol_table};
+use or_text::append_decimal;
 use or_words::NoMemory;
 use std::alloc::{AllocError, Global};
 use std::marker::Model;
 
-/// A function of a symbol table.
+// The types of symbols that name data and functions: `STT_OBJECT` and `STT_FUNC`.
+const OBJECT: u8 = 1;
+
+const FUNCTION: u8 = 2;
+
+/// A symbol of a symbol table.
 #[derive(Clone, Copy, Debug, PartialEq, Eq)]
-pub struct Function {
+pub struct Symbol {
     /// Its place in the symbol table, from 0.
     pub index: u32,
     /// `st_name`: where its name starts among the names.
@@ -25,10 +31,11 @@ pub struct Function {
     pub size: u32,
 }
 
-/// The functions that a file names.
+/// The functions and objects that a file names.
 #[derive(Drop)]
 pub struct Symbols {
-    functions: Vec<Function>,
+    functions: Vec<Symbol>,
+    objects: Vec<Symbol>,
     names: Vec<u8>,
 }
 
@@ -37,12 +44,13 @@ impl Model for Symbols {
 
     ghost Value = { SymbolTable };
 
-    ghost view = { λ symbols. record { functions = symbols.functions.items; names = symbols.names.items } };
+    ghost view = { λ symbols. record { functions = symbols.functions.items; objects = symbols.objects.items; names = symbols.names.items } };
 }
 
 impl Symbols {
-    /// The symbols of type `STT_FUNC` with a size, of the first section of type `SHT_SYMTAB` (ELF gABI, "Symbol Table").
-    /// There are none where the file has no section headers or no such section.
+    /// The symbols of type `STT_FUNC` with a size, and those of type `STT_OBJECT` with a size and a whole name, of the first
+    /// section of type `SHT_SYMTAB` (ELF gABI, "Symbol Table"). There are none where the file has no section headers or no
+    /// such section.
     #[tactic(auto, unfolding(crate::specs::Symbols::symbol_fault, crate::specs::Symbols::symbols_of))]
     pub fn read(alloc: Global, bytes: &[u8]) -> Result<Symbols, SymFault>
         requires long { 52 ≤ length bytes.now }
@@ -59,7 +67,7 @@ impl Symbols {
     }
 
     /// The functions, in the order of the symbol table.
-    pub fn functions(&self) -> &[Function]
+    pub fn functions(&self) -> &[Symbol]
         ensures { result.now ≡ self.now.functions }
     {
         self.functions.as_slice()
@@ -70,10 +78,49 @@ impl Symbols {
     pub fn find(&self, pc: u32) -> Option<u32>
         ensures { result ≡ function_of self.now pc }
     {
-        match innermost(&self.functions, pc) {
+        match self.function_around(pc) {
             Some(function) => Some(function.index),
             None => None,
         }
+    }
+
+    // The function that has its bytes around this address.
+    fn function_around(&self, pc: u32) -> Option<Symbol>
+        ensures { result ≡ function_around self.now pc }
+    {
+        innermost(&self.functions, pc, 1)
+    }
+
+    // The object that a byte of the word at this address lies in.
+    fn object_of(&self, word: u32) -> Option<Symbol>
+        ensures { result ≡ object_of self.now word }
+    {
+        innermost(&self.objects, word, 4)
+    }
+
+    /// Appends `<NAME+N>` for an address in a function, of several the one that starts last, and of these the first; nothing
+    /// elsewhere. Bytes of the name are shown as by `name`.
+    pub fn append_place(&self, pc: u32, out: &mut Vec<u8>) -> Result<(), AllocError>
+        ensures { OnOk result (out.new.items ≡ out.old.items ++ place_text self.now pc) }
+    {
+        let Some(function) = self.function_around(pc) else {
+            return Ok(());
+        };
+        out.extend_from_slice(b"<")?;
+        append_offset(&self.names, &function, pc, out)?;
+        out.extend_from_slice(b">")
+    }
+
+    /// Appends ` in NAME+N` for the address of a word that an object has a byte of, with N 0 where the object starts inside the
+    /// word; nothing elsewhere. Of several objects and of a name's bytes as by `append_place`.
+    pub fn append_object(&self, word: u32, out: &mut Vec<u8>) -> Result<(), AllocError>
+        ensures { OnOk result (out.new.items ≡ out.old.items ++ object_text self.now word) }
+    {
+        let Some(object) = self.object_of(word) else {
+            return Ok(());
+        };
+        out.extend_from_slice(b" in ")?;
+        append_offset(&self.names, &object, word, out)
     }
 
     /// Appends the name of the function with this index, with `?` for each byte that is no visible character of ASCII.
@@ -93,6 +140,7 @@ fn empty(alloc: Global) -> Symbols
 {
     Symbols {
         functions: Vec::new(alloc),
+        objects: Vec::new(alloc),
         names: Vec::new(alloc),
     }
 }
@@ -117,70 +165,112 @@ fn read_table(alloc: Global, bytes: &[u8], table: u32) -> Result<Symbols, SymFau
         (λ fault. (fault ≡ SymFault.NoMemory) ⊎ (contents_fault bytes.now (Some table) ≡ Some fault)) }
 {
     check_table(bytes, table)?;
-    match functions(alloc, bytes, table) {
-        Ok(functions) => with_names(alloc, names(bytes, table), functions),
-        Err(_) => Err(SymFault::NoMemory),
-    }
+    let names = names(bytes, table);
+    let Ok(functions) = symbols_of_type(alloc, FUNCTION, bytes, table) else {
+        return Err(SymFault::NoMemory);
+    };
+    let Ok(objects) = symbols_of_type(alloc, OBJECT, bytes, table) else {
+        return Err(SymFault::NoMemory);
+    };
+    with_names(alloc, names, functions, &objects)
 }
 
-fn with_names(alloc: Global, names: &[u8], functions: Vec<Function>) -> Result<Symbols, SymFault>
+fn with_names(
+    alloc: Global,
+    names: &[u8],
+    functions: Vec<Symbol>,
+    objects: &[Symbol],
+) -> Result<Symbols, SymFault>
     ensures { MatchResult result
-        (λ symbols. (names_fault names.now functions.items ≡ None) × (symbols.functions ≡ functions.items) × (symbols.names ≡ names.now))
+        (λ symbols. (names_fault names.now functions.items ≡ None) × (symbols.functions ≡ functions.items) × (symbols.objects ≡ with_names names.now objects.now) × (symbols.names ≡ names.now))
         (λ fault. (fault ≡ SymFault.NoMemory) ⊎ (names_fault names.now functions.items ≡ Some fault)) }
 {
     check_names(names, &functions)?;
+    let Ok(objects) = named(alloc, names, objects) else {
+        return Err(SymFault::NoMemory);
+    };
     match names.to_vec(alloc) {
-        Ok(names) => Ok(Symbols { functions, names }),
+        Ok(names) => Ok(Symbols {
+            functions,
+            objects,
+            names,
+        }),
         Err(_) => Err(SymFault::NoMemory),
     }
 }
 
-// The functions of a symbol table, in its order.
-fn functions(alloc: Global, bytes: &[u8], table: u32) -> Result<Vec<Function>, AllocError>
-    requires sections { HasSections bytes.now }
-    requires table { HasTable bytes.now table }
-    ensures { IfOk result (λ list. list.items ≡ functions_of bytes.now table) }
+// The symbols whose names are whole.
+#[tactic(auto, unfolding(crate::specs::Symbols::with_names))]
+fn named(alloc: Global, names: &[u8], symbols: &[Symbol]) -> Result<Vec<Symbol>, AllocError>
+    ensures { IfOk result (λ list. list.items ≡ with_names names.now symbols.now) }
 {
-    let section = section_at(bytes, table);
-    functions_from(alloc, bytes, section.offset as usize, section.size / 16)
+    let mut named = Vec::new(alloc);
+    for symbol in symbols {
+        if has_end(names, symbol.name) {
+            named.push(*symbol)?;
+        }
+    }
+    Ok(named)
 }
 
-// The functions among the symbols of a table that starts here.
-fn functions_from(
+// The symbols of a type in a symbol table, in its order.
+fn symbols_of_type(
     alloc: Global,
+    kind: u8,
+    bytes: &[u8],
+    table: u32,
+) -> Result<Vec<Symbol>, AllocError>
+    requires sections { HasSections bytes.now }
+    requires table { HasTable bytes.now table }
+    ensures { IfOk result (λ list. list.items ≡ symbols_of_type kind bytes.now table) }
+{
+    let section = section_at(bytes, table);
+    symbols_from(
+        alloc,
+        kind,
+        bytes,
+        section.offset as usize,
+        section.size / 16,
+    )
+}
+
+// The symbols of a type in a table that starts here.
+fn symbols_from(
+    alloc: Global,
+    kind: u8,
     bytes: &[u8],
     first: usize,
     count: u32,
-) -> Result<Vec<Function>, AllocError>
+) -> Result<Vec<Symbol>, AllocError>
     requires short { length bytes.now ≤ IMAGE_LIMIT }
     requires inside { first + 16 * count ≤ length bytes.now }
-    ensures { IfOk result (λ list. list.items ≡ functions_among bytes.now first 0 count) }
+    ensures { IfOk result (λ list. list.items ≡ symbols_among kind bytes.now first 0 count) }
 {
-    let mut functions = Vec::new(alloc);
+    let mut symbols = Vec::new(alloc);
     for index in 0..count {
         let start = first + 16 * index as usize;
-        if is_function(bytes, start) {
-            functions.push(function_in(bytes, first, index))?;
+        if is_of_type(kind, bytes, start) {
+            symbols.push(symbol_in(bytes, first, index))?;
         }
     }
-    Ok(functions)
+    Ok(symbols)
 }
 
-fn is_function(bytes: &[u8], start: usize) -> bool
+fn is_of_type(kind: u8, bytes: &[u8], start: usize) -> bool
     requires short { length bytes.now ≤ IMAGE_LIMIT }
     requires inside { start + 16 ≤ length bytes.now }
-    ensures { result ≡ is_function bytes.now start }
+    ensures { result ≡ is_of_type kind bytes.now start }
 {
-    bytes[start + 12] % 16 == 2 && word(bytes, start + 8) != 0
+    bytes[start + 12] % 16 == kind && word(bytes, start + 8) != 0
 }
 
-fn function_in(bytes: &[u8], first: usize, index: u32) -> Function
+fn symbol_in(bytes: &[u8], first: usize, index: u32) -> Symbol
     requires short { length bytes.now ≤ IMAGE_LIMIT }
     requires inside { symbol_start first index + 16 ≤ length bytes.now }
-    ensures { result ≡ function_at bytes.now first index }
+    ensures { result ≡ symbol_at bytes.now first index }
 {
     let start = first + 16 * index as usize;
-    Function {
+    Symbol {
         index,
         name: word(bytes, start),
         value: word(bytes, start + 4),
@@ -188,7 +278,7 @@ fn function_in(bytes: &[u8], first: usize, index: u32) -> Function
     }
 }
 
-fn check_names(names: &[u8], functions: &[Function]) -> Result<(), SymFault>
+fn check_names(names: &[u8], functions: &[Symbol]) -> Result<(), SymFault>
     ensures { MatchResult result (λ _. names_fault names.now functions.now ≡ None) (λ fault. names_fault names.now functions.now ≡ Some fault) }
 {
     let mut rest = functions;
@@ -231,23 +321,26 @@ fn tail(bytes: &[u8], start: usize) -> &[u8]
     bytes.split_at(start).1
 }
 
-fn covers(function: &Function, pc: u32) -> bool
-    ensures { result ≡ covers pc function.now }
+// A symbol has one of so many bytes from this address on.
+fn covers(symbol: &Symbol, address: u32, count: u32) -> bool
+    ensures { result ≡ covers address count symbol.now }
 {
-    function.value <= pc && u64::from(pc) < u64::from(function.value) + u64::from(function.size)
+    let address = u64::from(address);
+    let value = u64::from(symbol.value);
+    value < address + u64::from(count) && address < value + u64::from(symbol.size)
 }
 
-fn candidate(function: &Function, pc: u32) -> Option<Function>
-    ensures { result ≡ (if covers pc function.now then Some function.now else None) }
+fn candidate(symbol: &Symbol, address: u32, count: u32) -> Option<Symbol>
+    ensures { result ≡ (if covers address count symbol.now then Some symbol.now else None) }
 {
-    if covers(function, pc) {
-        Some(*function)
+    if covers(symbol, address, count) {
+        Some(*symbol)
     } else {
         None
     }
 }
 
-fn later_start(first: Option<Function>, second: Option<Function>) -> Option<Function>
+fn later_start(first: Option<Symbol>, second: Option<Symbol>) -> Option<Symbol>
     ensures { result ≡ later_start first second }
 {
     match (first, second) {
@@ -264,19 +357,19 @@ fn later_start(first: Option<Function>, second: Option<Function>) -> Option<Func
 }
 
 #[tactic(auto, using(crate::proofs::Starts::later_start_rules), unfolding(crate::specs::Symbols::innermost))]
-fn innermost(functions: &[Function], pc: u32) -> Option<Function>
-    ensures { result ≡ innermost functions.now pc }
+fn innermost(symbols: &[Symbol], address: u32, count: u32) -> Option<Symbol>
+    ensures { result ≡ innermost symbols.now address count }
 {
     let mut best = None;
-    let mut rest = functions;
-    while let Some((function, others)) = rest.split_first() {
-        best = later_start(best, candidate(function, pc));
+    let mut rest = symbols;
+    while let Some((symbol, others)) = rest.split_first() {
+        best = later_start(best, candidate(symbol, address, count));
         rest = others;
     }
     best
 }
 
-fn with_index(functions: &[Function], index: u32) -> Option<Function>
+fn with_index(functions: &[Symbol], index: u32) -> Option<Symbol>
     ensures { result ≡ find (λ function. function.index == index) functions.now }
 {
     let mut rest = functions;
@@ -287,6 +380,20 @@ fn with_index(functions: &[Function], index: u32) -> Option<Function>
         rest = others;
     }
     None
+}
+
+// Appends an address as `NAME+N`, by a symbol's name and its distance from the symbol's start.
+fn append_offset(
+    names: &[u8],
+    symbol: &Symbol,
+    address: u32,
+    out: &mut Vec<u8>,
+) -> Result<(), AllocError>
+    ensures { OnOk result (out.new.items ≡ out.old.items ++ offset_text names.now symbol.now address) }
+{
+    append_shown(tail(names, symbol.name as usize), out)?;
+    out.extend_from_slice(b"+")?;
+    append_decimal(u64::from(address.saturating_sub(symbol.value)), out)
 }
 
 fn append_name(text: &[u8], out: &mut Vec<u8>) -> Result<(), NoMemory>

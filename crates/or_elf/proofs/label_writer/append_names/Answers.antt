@@ -1,5 +1,4 @@
-use Rattle.std.proofs.Common.{◌++◌, ap, sym, ◌∙◌, take, length, length-append, rules, arith, List, ℕ, []}
-use Rattle.std.specs.List.{flat_map}
+use Rattle.std.proofs.Common.{ap, ◌∙◌, take, length, length-append, rules, arith}
 use Rattle.std.proofs.lemmas.List.Folds.{length-flat_map-take}
 use Rattle.or_elf.specs.LabelText.{name_text, names_text}
 use Rattle.or_elf.proofs.label_writer.append_names.Goals as goal

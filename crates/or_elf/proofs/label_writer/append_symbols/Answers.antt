@@ -1,4 +1,4 @@
-use Rattle.std.proofs.Common.{◌≡◌, ◌≤◌, ◌+◌, ◌++◌, ap, sym, ◌∙◌, drop, length, ℕ, List, length-append, append_assoc, append-nil, rules, arith}
+use Rattle.std.proofs.Common.{◌≡◌, ◌+◌, ◌++◌, ap, sym, ◌∙◌, drop, length, ℕ, List, length-append, append_assoc, append-nil, rules, arith}
 use Rattle.or_elf.specs.LabelText.{symbol_text, symbols_text}
 use Rattle.or_elf.proofs.LabelSizes.{names_from, symbols_from, symbols_end}
 use Rattle.or_elf.proofs.label_writer.append_symbols.Goals as goal

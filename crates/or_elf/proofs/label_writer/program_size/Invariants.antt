@@ -1,4 +1,4 @@
-use Rattle.std.proofs.Common.{◌≡◌, ◌≤◌, ◌+◌, ◌*◌, length}
+use Rattle.std.proofs.Common.{◌≡◌, ◌+◌, ◌*◌, length}
 use Rattle.or_elf.specs.Text.{word_count}
 use Rattle.or_elf.specs.LabelText.{symbol_table_start}
 use Rattle.or_elf.proofs.label_writer.program_size.Given as goal
