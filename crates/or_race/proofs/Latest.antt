@@ -1,11 +1,14 @@
 -- The last events of a kind.
-use Rattle.std.proofs.Common.{◌≡◌, ℕ, ◌<◌, ◌≤◌, ◌⊎◌, max, List, [], ◌∷◌, ◌++◌, length, slice_get, slice_index, Some, Bool, true, false, IsTrue, refl, sym, ap, subst, ⊎_elim, inl, inr, arith}
+use Rattle.std.proofs.Common.{◌≡◌, ℕ, ◌<◌, ◌≤◌, ◌⊎◌, max, List, [], ◌∷◌, ◌++◌, length, slice_get, Some, Bool, true, false, cond, IsTrue, refl, sym, ap, subst, ⊎_elim, inl, inr, arith}
+use Rattle.std.specs.Prelude.{nat_lt}
+use Rattle.std.proofs.lemmas.Bool.Decides.{nat_tests}
 use Rattle.or_bus.specs.declared.access.AccessKind.{AccessKind}
 use Rattle.or_bus.specs.declared.access.AccessKind.TheVariants.{Load, Store, Linked, Conditional}
 use Rattle.or_race.specs.declared.word.Word.{Word}
 use Rattle.or_race.specs.Event.{Event}
 use Rattle.or_race.specs.Race.{kinds_conflict}
-use Rattle.or_race.specs.Kept.{IsLatest, IsOf, lasts_of, conflicting_of}
+use Rattle.or_race.specs.declared.word.Last.{Last}
+use Rattle.or_race.specs.Kept.{IsLatest, IsOf, IsPlaced, last_at, later_access, conflicting_of}
 use Rattle.or_race.proofs.Places.{at_old, at_new, at_which}
 use Rattle.or_race.proofs.Clocks.{AllBelow, le_or_lt}
 
@@ -71,19 +74,43 @@ pub record Conflicting (word core : ℕ) (kind : AccessKind) (e : Event) : Type 
   pub kinds : IsTrue (kinds_conflict e.kind kind)
 
 abbrev picked : AccessKind → Word → ℕ → AccessKind → ℕ
-picked kind s core k = pick (kinds_conflict k kind) (slice_index (lasts_of k s) core)
+picked kind s core k = pick (kinds_conflict k kind) (last_at k s core).turn
 
 abbrev all_picked : AccessKind → Word → ℕ → ℕ
 all_picked kind s core = max (max (picked kind s core Load) (picked kind s core Store)) (max (picked kind s core Linked) (picked kind s core Conditional))
 
-conflicting_is : (kind : AccessKind) (s : Word) (core : ℕ) → conflicting_of kind s core ≡ all_picked kind s core
-conflicting_is Load s core = omega arith
-conflicting_is Store s core = omega arith
+later_turn : (a b : Last) → (later_access a b).turn ≡ max a.turn b.turn
+later_turn a b = grind (arith, nat_tests)
+
+conflicting_is : (kind : AccessKind) (s : Word) (core : ℕ) → (conflicting_of kind s core).turn ≡ all_picked kind s core
+conflicting_is Load s core = omega (arith, later_turn (last_at Store s core) (last_at Conditional s core))
+conflicting_is Store s core =
+    let plain = later_access (last_at Load s core) (last_at Store s core) in
+    let locked = later_access (last_at Linked s core) (last_at Conditional s core) in
+    omega (arith, later_turn plain locked, later_turn (last_at Load s core) (last_at Store s core), later_turn (last_at Linked s core) (last_at Conditional s core))
 conflicting_is Linked s core = omega arith
-conflicting_is Conditional s core = omega arith
+conflicting_is Conditional s core = omega (arith, later_turn (last_at Load s core) (last_at Store s core))
+
+-- the later of two accesses that are placed is placed
+later_placed : (es : List Event) (word core : ℕ) (a b : Last) → IsPlaced es word core a → IsPlaced es word core b → IsPlaced es word core (later_access a b)
+later_placed es word core a b p q = by_test (nat_lt a.turn b.turn)
+  where
+    by_test : (less : Bool) → IsPlaced es word core (cond less b a)
+    by_test true = q
+    by_test false = p
+
+-- so the last conflicting is
+pub conflicting_placed : (es : List Event) (word core : ℕ) (kind : AccessKind) (s : Word) → ((k : AccessKind) → IsPlaced es word core (last_at k s core)) → IsPlaced es word core (conflicting_of kind s core)
+conflicting_placed es word core Load s at = later_placed es word core (last_at Store s core) (last_at Conditional s core) (at Store) (at Conditional)
+conflicting_placed es word core Store s at =
+    later_placed es word core (later_access (last_at Load s core) (last_at Store s core)) (later_access (last_at Linked s core) (last_at Conditional s core))
+    (later_placed es word core (last_at Load s core) (last_at Store s core) (at Load) (at Store))
+    (later_placed es word core (last_at Linked s core) (last_at Conditional s core) (at Linked) (at Conditional))
+conflicting_placed es word core Linked s at = at Store
+conflicting_placed es word core Conditional s at = later_placed es word core (last_at Load s core) (last_at Store s core) (at Load) (at Store)
 
 -- the last conflicting, where the last accesses are right
-pub last_conflicting : (es : List Event) (word core : ℕ) (kind : AccessKind) (s : Word) → ((k : AccessKind) → IsLatest es (IsOf word core k) (slice_index (lasts_of k s) core)) → IsLatest es (Conflicting word core kind) (conflicting_of kind s core)
+pub last_conflicting : (es : List Event) (word core : ℕ) (kind : AccessKind) (s : Word) → ((k : AccessKind) → IsLatest es (IsOf word core k) (last_at k s core).turn) → IsLatest es (Conflicting word core kind) (conflicting_of kind s core).turn
 last_conflicting es word core kind s lasts = subst (IsLatest es (Conflicting word core kind)) (sym (conflicting_is kind s core))
     (latest_iff es U (Conflicting word core kind) (all_picked kind s core) back forth
     (latest_or es (λ e. Q Load e ⊎ Q Store e) (λ e. Q Linked e ⊎ Q Conditional e) (max (picked kind s core Load) (picked kind s core Store)) (max (picked kind s core Linked) (picked kind s core Conditional))
@@ -97,7 +124,7 @@ last_conflicting es word core kind s lasts = subst (IsLatest es (Conflicting wor
     U e = (Q Load e ⊎ Q Store e) ⊎ (Q Linked e ⊎ Q Conditional e)
 
     part : (k : AccessKind) → IsLatest es (Q k) (picked kind s core k)
-    part k = latest_pick es (IsOf word core k) (slice_index (lasts_of k s) core) (kinds_conflict k kind) (lasts k)
+    part k = latest_pick es (IsOf word core k) (last_at k s core).turn (kinds_conflict k kind) (lasts k)
 
     place : (k : AccessKind) (e : Event) → Q k e → U e
     place Load e h = inl (inl h)

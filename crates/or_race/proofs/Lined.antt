@@ -14,19 +14,20 @@ use Rattle.or_race.specs.Race.{Race, IsData, IsReported, HasLine, IsReport}
 use Rattle.or_race.specs.Kept.{FoundOk, SynchronizesOk, blank}
 use Rattle.or_race.specs.Records.{Records, kept_of}
 use Rattle.or_race.specs.Lines.{reported_line, found_lines}
+use Rattle.or_elf.specs.Symbols.{SymbolTable}
 use Rattle.or_race.specs.Text.{line_text, lines_text}
 
 pub values_few : (words : BTreeMap ℕ Word) → length (values words) ≡ btree_map_len words
 values_few words = length-values_of words.entries
 
 -- the text of one more line
-pub lines_text_some : (line : Line) (lines : List Line) → lines_text (line ∷ lines) ≡ line_text line ++ lines_text lines
+pub lines_text_some : (symbols : Option SymbolTable) (line : Line) (lines : List Line) → lines_text symbols (line ∷ lines) ≡ line_text symbols line ++ lines_text symbols lines
 unfolding lines_text
-lines_text_some line lines = refl
+lines_text_some symbols line lines = refl
 
-pub lines_text_none : lines_text [] ≡ []
+pub lines_text_none : (symbols : Option SymbolTable) → lines_text symbols [] ≡ []
 unfolding lines_text
-lines_text_none = refl
+lines_text_none symbols = refl
 
 module _ (locks : Bool) where
   -- no more lines than words
@@ -42,13 +43,15 @@ module _ (locks : Bool) where
   pub one_found : (rest : List Word) (w : Word) (ws : List Word) (line : Line) → rest ≡ w ∷ ws → reported_line locks w ≡ Some line → found_lines locks rest ≡ line ∷ found_lines locks ws
   one_found rest w ws line e f = ap (found_lines locks) e ∙ ap (λ o. option_to_list o ++ found_lines locks ws) f
 
-  pub text_next : (out new total : List ℕ) (rest ws : List Word) (line : Line) → new ≡ out ++ line_text line → found_lines locks rest ≡ line ∷ found_lines locks ws → out ++ lines_text (found_lines locks rest) ≡ total → new ++ lines_text (found_lines locks ws) ≡ total
-  text_next out new total rest ws line n f before =
-      ap (λ x. x ++ lines_text (found_lines locks ws)) n ∙ append_assoc out (line_text line) (lines_text (found_lines locks ws))
-      ∙ ap (λ x. out ++ x) (sym (ap lines_text f ∙ lines_text_some line (found_lines locks ws))) ∙ before
+  pub text_next : (symbols : Option SymbolTable) (out new total : List ℕ) (rest ws : List Word) (line : Line) → new ≡ out ++ line_text symbols line → found_lines locks rest ≡ line ∷ found_lines locks ws
+      → out ++ lines_text symbols (found_lines locks rest) ≡ total → new ++ lines_text symbols (found_lines locks ws) ≡ total
+  text_next symbols out new total rest ws line n f before =
+      ap (λ x. x ++ lines_text symbols (found_lines locks ws)) n ∙ append_assoc out (line_text symbols line) (lines_text symbols (found_lines locks ws))
+      ∙ ap (λ x. out ++ x) (sym (ap (lines_text symbols) f ∙ lines_text_some symbols line (found_lines locks ws))) ∙ before
 
-  pub text_end : (out total : List ℕ) (rest : List Word) → rest ≡ [] → out ++ lines_text (found_lines locks rest) ≡ total → out ≡ total
-  text_end out total rest e before = sym (append-nil out) ∙ ap (λ x. out ++ x) (sym (ap (λ ws. lines_text (found_lines locks ws)) e ∙ lines_text_none)) ∙ before
+  pub text_end : (symbols : Option SymbolTable) (out total : List ℕ) (rest : List Word) → rest ≡ [] → out ++ lines_text symbols (found_lines locks rest) ≡ total → out ≡ total
+  text_end symbols out total rest e before =
+      sym (append-nil out) ∙ ap (λ x. out ++ x) (sym (ap (λ ws. lines_text symbols (found_lines locks ws)) e ∙ lines_text_none symbols)) ∙ before
 
 -- ---- the report
 all_at : {A : Type 0} (P : A → Type 0) (xs : List A) → ((i : ℕ) (x : A) → slice_get xs i ≡ Some x → P x) → AllByRecursion P xs

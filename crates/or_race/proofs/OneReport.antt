@@ -3,6 +3,8 @@ use Rattle.std.proofs.Common.{◌≡◌, Bool, ℕ, ◌<◌, List, [], ◌∷◌
 use Rattle.std.specs.List.{AllByRecursion}
 use Rattle.std.specs.List.Sorted.{IsStrictlySortedBy}
 use Rattle.std.specs.Cmp.{ranked}
+use Rattle.std.specs.Prelude.{Option}
+use Rattle.or_elf.specs.Symbols.{SymbolTable}
 use Rattle.or_race.specs.declared.line.Line.{Line}
 use Rattle.or_race.specs.Event.{Event}
 use Rattle.or_race.specs.Race.{Race, IsData, IsFirst, IsReported, HasLine}
@@ -47,10 +49,12 @@ module _ (locks : Bool) where
       let same_i : p.i ≡ q.i = omega arith in
       let first = same_at es p.i p.race.first q.race.first p.race.at_first (ap (slice_get es) same_i ∙ q.race.at_first) in
       let second = same_at es p.j p.race.second q.race.second p.race.at_second (ap (slice_get es) same_j ∙ q.race.at_second) in
-      same_line a b same (p.first_turn ∙ ap (λ (e : Event). e.turn) first ∙ sym q.first_turn) (p.first_core ∙ ap (λ (e : Event). e.core) first ∙ sym q.first_core) (p.second_turn ∙ ap (λ (e : Event). e.turn) second ∙ sym q.second_turn) (p.second_core ∙ ap (λ (e : Event). e.core) second ∙ sym q.second_core)
+      let first_pc = p.first_pc ∙ ap (λ (e : Event). e.pc) first ∙ sym q.first_pc in
+      let second_pc = p.second_pc ∙ ap (λ (e : Event). e.pc) second ∙ sym q.second_pc in
+      same_line a b same first_pc second_pc (p.first_turn ∙ ap (λ (e : Event). e.turn) first ∙ sym q.first_turn) (p.first_core ∙ ap (λ (e : Event). e.core) first ∙ sym q.first_core) (p.second_turn ∙ ap (λ (e : Event). e.turn) second ∙ sym q.second_turn) (p.second_core ∙ ap (λ (e : Event). e.core) second ∙ sym q.second_core)
     where
-      same_line : (a b : Line) → a.word ≡ b.word → a.first_turn ≡ b.first_turn → a.first_core ≡ b.first_core → a.second_turn ≡ b.second_turn → a.second_core ≡ b.second_core → a ≡ b
-      same_line a b v w x y z = λ i. record { word = v i; first_turn = w i; first_core = x i; second_turn = y i; second_core = z i }
+      same_line : (a b : Line) → a.word ≡ b.word → a.first_pc ≡ b.first_pc → a.second_pc ≡ b.second_pc → a.first_turn ≡ b.first_turn → a.first_core ≡ b.first_core → a.second_turn ≡ b.second_turn → a.second_core ≡ b.second_core → a ≡ b
+      same_line a b v p q w x y z = λ i. record { word = v i; first_turn = w i; first_core = x i; first_pc = p i; second_turn = y i; second_core = z i; second_pc = q i }
 
   same_lines : (es : List Event) (xs ys : List Line) → IsStrictlySortedBy nat_cmp (words_of xs) → IsStrictlySortedBy nat_cmp (words_of ys) → AllByRecursion (IsReported locks es) xs → AllByRecursion (IsReported locks es) ys → ((w : ℕ) → HasLine w xs → HasLine w ys) → ((w : ℕ) → HasLine w ys → HasLine w xs) → xs ≡ ys
   unfolding IsStrictlySortedBy
@@ -76,7 +80,7 @@ module _ (locks : Bool) where
       (from w (inr h))) in
       ap (λ z. z ∷ xs) (one_line es x y p.0.0 q.0.0 same) ∙ ap (λ zs. y ∷ zs) tails
 
-  pub one_text : (es : List Event) (a b : List ℕ) → RaceText locks es a → RaceText locks es b → a ≡ b
-  one_text es a b p q = p.text_is ∙ ap (report_text locks) (same_lines es p.lines q.lines p.report.sorted q.report.sorted p.report.each q.report.each
+  pub one_text : (symbols : Option SymbolTable) (es : List Event) (a b : List ℕ) → RaceText locks symbols es a → RaceText locks symbols es b → a ≡ b
+  one_text symbols es a b p q = p.text_is ∙ ap (report_text locks symbols) (same_lines es p.lines q.lines p.report.sorted q.report.sorted p.report.each q.report.each
       (λ w h. races es w p.lines q.lines p.report.each q.report.all h)
       (λ w h. races es w q.lines p.lines q.report.each p.report.all h)) ∙ sym q.text_is

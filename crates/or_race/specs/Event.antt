@@ -4,16 +4,17 @@ use Rattle.or_bus.specs.declared.access.AccessKind.{AccessKind}
 use Rattle.or_bus.specs.declared.access.AccessKind.TheVariants.{Load, Store, Linked, Conditional}
 use Rattle.or_bus.specs.declared.access.Access.{Access}
 
--- an access to RAM and the turn that made it, counted from 1
+-- an access to RAM, the turn that made it, counted from 1, and the pc of its instruction
 pub record Event : Type 0 where
   pub turn : ℕ
+  pub pc : ℕ
   pub core : ℕ
   pub word : ℕ
   pub kind : AccessKind
 
--- the event of an access in a turn
-abbrev pub event : ℕ → Access → Event
-event turn a = record { turn = turn; core = a.core; word = a.word; kind = a.kind }
+-- the event of an access in a turn, made at a pc
+abbrev pub event : ℕ → ℕ → Access → Event
+event turn pc a = record { turn = turn; pc = pc; core = a.core; word = a.word; kind = a.kind }
 
 -- a conditional store that stored releases its word; with locks, a plain store does too, as it frees a lock
 abbrev pub is_release : Bool → AccessKind → Bool

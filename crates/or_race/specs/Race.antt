@@ -67,6 +67,8 @@ pub record IsFirst (locks : Bool) (es : List Event) (line : Line) : Type 0 where
   pub first_core : line.first_core ≡ race.first.core
   pub second_turn : line.second_turn ≡ race.second.turn
   pub second_core : line.second_core ≡ race.second.core
+  pub first_pc : line.first_pc ≡ race.first.pc
+  pub second_pc : line.second_pc ≡ race.second.pc
 
 -- a line of a report
 abbrev pub IsReported : Bool → List Event → Line → Type 0

@@ -30,12 +30,12 @@ impl Races {
         }
     }
 
-    /// Adds the access of a turn. Turns are counted from 1, and this one is behind those added before. Errors: NoMemory, only
-    /// at a word's first access, and then all is as before.
-    pub fn add(&mut self, turn: u64, a: &Access) -> Result<(), NoMemory>
+    /// Adds the access of a turn, made at a pc. Turns are counted from 1, and this one is behind those added before. Errors:
+    /// NoMemory, only at a word's first access, and then all is as before.
+    pub fn add(&mut self, turn: u64, pc: u32, a: &Access) -> Result<(), NoMemory>
         requires core { a.now.core < cores_of self.old }
         requires later { last_of self.old < turn }
-        ensures ok { OnOk result ((locks : Bool) (events : List Event) → Records locks self.old events → Records locks self.new (events ++ event turn a.now ∷ [])) }
+        ensures ok { OnOk result ((locks : Bool) (events : List Event) → Records locks self.old events → Records locks self.new (events ++ event turn pc a.now ∷ [])) }
         ensures err { OnErr result ((locks : Bool) (events : List Event) → Records locks self.old events → Records locks self.new events) }
         ensures cores { cores_of self.new ≡ cores_of self.old }
         ensures last { OnOk result (last_of self.new ≡ turn) }
@@ -48,7 +48,7 @@ impl Races {
         let core = a.core as usize;
         let before = self.words.get(&a.word).copied().unwrap_or(blank_word());
         let clock = next_clock(&self.clocks[core], &before.released, turn, a);
-        let word = next_word(self.locks, self.cores, &clock, &before, turn, a);
+        let word = next_word(self.locks, self.cores, &clock, &before, turn, pc, a);
         match self.words.insert(a.word, word) {
             Ok(_) => {
                 self.clocks[core] = clock;

@@ -1,11 +1,13 @@
 //! Laws of the definitions, which stand on functions with nothing in them.
-ghost use Rattle.std.specs.Prelude.{◌≡◌, ℕ, List, Bool, IsTrue};
+ghost use Rattle.std.specs.Prelude.{◌≡◌, ℕ, List, Option, Bool, IsTrue};
+ghost use Rattle.or_elf.specs.Symbols.{SymbolTable};
 ghost use Rattle.or_race.specs.Event.{Event, Direct, Before};
 ghost use Rattle.or_race.specs.Text.{RaceText};
 
-/// A list of events has one report.
+/// A list of events has one report, with the same symbols or without.
 pub fn one_report()
-    ensures { (locks : Bool) (events : List Event) (a b : List ℕ) → RaceText locks events a → RaceText locks events b → a ≡ b }
+    ensures { (locks : Bool) (symbols : Option SymbolTable) (events : List Event) (a b : List ℕ) → RaceText locks symbols events a
+        → RaceText locks symbols events b → a ≡ b }
 {}
 
 /// Before is the least: each transitive relation that has what is ordered at once has all of it.

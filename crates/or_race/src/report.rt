@@ -4,11 +4,13 @@ ghost use Rattle.std.specs.BTreeMap.{values};
 ghost use Rattle.or_race.specs.Event.{Event};
 ghost use Rattle.or_race.specs.Lines.{reported_line, found_lines};
 ghost use Rattle.or_race.specs.Records.{Records};
-ghost use Rattle.or_race.specs.Text.{letter, access_text, line_text, lines_text, head_text, report_text, RaceText};
+ghost use Rattle.or_elf.specs.Symbols.{SymbolTable};
+ghost use Rattle.or_race.specs.Text.{letter, access_text, pc_text, places_text, line_text, lines_text, head_text, report_text, RaceText};
 
 use crate::line::Line;
 use crate::races::Races;
 use crate::word::Word;
+use or_elf::Symbols;
 use or_text::{append_decimal, append_word};
 use or_words::NoMemory;
 use std::alloc::{AllocError, Global};
@@ -30,14 +32,47 @@ fn append_access(turn: u64, core: u32, out: &mut Vec<u8>) -> Result<(), AllocErr
     out.extend_from_slice(&[b' ', letter_of(core)])
 }
 
+// Appends a pc, and the function that it lies in.
+fn append_pc(symbols: &Symbols, pc: u32, out: &mut Vec<u8>) -> Result<(), AllocError>
+    ensures { OnOk result (out.new.items ≡ out.old.items ++ pc_text symbols.now pc) }
+{
+    append_word(pc, out)?;
+    symbols.append_place(pc, out)
+}
+
+// Appends where the accesses of a line were made, if symbols are given.
+#[tactic(auto, unfolding(crate::specs::Text::places_text))]
+fn append_places(
+    symbols: &Option<Symbols>,
+    line: &Line,
+    out: &mut Vec<u8>,
+) -> Result<(), AllocError>
+    ensures { OnOk result (out.new.items ≡ out.old.items ++ places_text symbols.now line.now) }
+{
+    let Some(symbols) = symbols else {
+        return Ok(());
+    };
+    symbols.append_object(line.word, out)?;
+    out.extend_from_slice(b" at ")?;
+    append_pc(symbols, line.first_pc, out)?;
+    out.extend_from_slice(b" ")?;
+    append_pc(symbols, line.second_pc, out)
+}
+
 // Appends a line.
-fn append_line(line: &Line, out: &mut Vec<u8>) -> Result<(), AllocError>
-    ensures { OnOk result (out.new.items ≡ out.old.items ++ line_text line.now) }
+#[tactic(auto, unfolding(crate::specs::Text::line_text))]
+fn append_line(
+    symbols: &Option<Symbols>,
+    line: &Line,
+    out: &mut Vec<u8>,
+) -> Result<(), AllocError>
+    ensures { OnOk result (out.new.items ≡ out.old.items ++ line_text symbols.now line.now) }
 {
     out.extend_from_slice(b"race ")?;
     append_word(line.word, out)?;
     append_access(line.first_turn, line.first_core, out)?;
     append_access(line.second_turn, line.second_core, out)?;
+    append_places(symbols, line, out)?;
     out.extend_from_slice(b"\n")
 }
 
@@ -55,17 +90,18 @@ fn line_of(locks: bool, word: &Word) -> Option<Line>
 // Appends the lines of the words that race, and answers how many they are.
 fn append_lines(
     locks: bool,
+    symbols: &Option<Symbols>,
     words: &BTreeMap<u32, Word>,
     out: &mut Vec<u8>,
 ) -> Result<u64, AllocError>
     ensures count { IfOk result (λ count. count ≡ length (found_lines locks (values words.now))) }
-    ensures text { OnOk result (out.new.items ≡ out.old.items ++ lines_text (found_lines locks (values words.now))) }
+    ensures text { OnOk result (out.new.items ≡ out.old.items ++ lines_text symbols.now (found_lines locks (values words.now))) }
 {
     let _most = words.len();
     let mut count: u64 = 0;
     for word in words.values() {
         if let Some(line) = line_of(locks, word) {
-            append_line(&line, out)?;
+            append_line(symbols, &line, out)?;
             count += 1;
         }
     }
@@ -86,35 +122,42 @@ fn append_head(locks: bool, out: &mut Vec<u8>) -> Result<(), AllocError>
 // Appends the report.
 fn append_report(
     locks: bool,
+    symbols: &Option<Symbols>,
     words: &BTreeMap<u32, Word>,
     out: &mut Vec<u8>,
 ) -> Result<(), AllocError>
-    ensures { OnOk result (out.new.items ≡ out.old.items ++ report_text locks (found_lines locks (values words.now))) }
+    ensures { OnOk result (out.new.items ≡ out.old.items ++ report_text locks symbols.now (found_lines locks (values words.now))) }
 {
     append_head(locks, out)?;
-    let count = append_lines(locks, words, out)?;
+    let count = append_lines(locks, symbols, words, out)?;
     out.extend_from_slice(b"races ")?;
     append_decimal(count, out)?;
     out.extend_from_slice(b"\n")
 }
 
 // The report.
-fn report(alloc: Global, locks: bool, words: &BTreeMap<u32, Word>) -> Result<Vec<u8>, AllocError>
-    ensures { IfOk result (λ text. text.items ≡ report_text locks (found_lines locks (values words.now))) }
+fn report(
+    alloc: Global,
+    locks: bool,
+    symbols: &Option<Symbols>,
+    words: &BTreeMap<u32, Word>,
+) -> Result<Vec<u8>, AllocError>
+    ensures { IfOk result (λ text. text.items ≡ report_text locks symbols.now (found_lines locks (values words.now))) }
 {
     let mut text = Vec::new(alloc);
-    append_report(locks, words, &mut text)?;
+    append_report(locks, symbols, words, &mut text)?;
     Ok(text)
 }
 
 impl Races {
-    /// Appends the report on the accesses. Errors: NoMemory, and then `out` is as before.
-    pub fn write(&self, out: &mut Vec<u8>) -> Result<(), NoMemory>
-        ensures ok { OnOk result ((locks : Bool) (events : List Event) → Records locks self.now events → (text : List ℕ) × RaceText locks events text × (out.new.items ≡ out.old.items ++ text)) }
+    /// Appends the report on the accesses. Where symbols are given, each line tells where its two accesses were made. Errors:
+    /// NoMemory, and then `out` is as before.
+    pub fn write(&self, symbols: &Option<Symbols>, out: &mut Vec<u8>) -> Result<(), NoMemory>
+        ensures ok { OnOk result ((locks : Bool) (events : List Event) → Records locks self.now events → (text : List ℕ) × RaceText locks symbols.now events text × (out.new.items ≡ out.old.items ++ text)) }
         ensures err { OnErr result (out.new.items ≡ out.old.items) }
     {
         let _words = self.words.len();
-        let Ok(text) = report(self.alloc, self.locks, &self.words) else {
+        let Ok(text) = report(self.alloc, self.locks, symbols, &self.words) else {
             return Err(NoMemory);
         };
         match out.extend_from_slice(&text) {

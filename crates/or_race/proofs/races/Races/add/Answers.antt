@@ -9,8 +9,8 @@ pub returns-in-Ok-clause-ok : goal.returns-in-Ok-clause-ok
 returns-in-Ok-clause-ok c =
     let before : c.unwrap_or-before.result ≡ kept_of c.args.self.now c.args.a.now.word = cc in
     let long : c.args.a.now.core < length c.args.self.now.clocks = search rules in
-    λ locks es r. added locks c.args.self.now _ (event c.args.turn c.args.a.now) es c.next_clock-clock.result c.next_word-word.result c.requires.core c.requires.later
-    (rw (← before) c.next_clock-clock.ensures) (rw (← before) c.next_word-word.ensures) refl refl refl
+    λ locks es r. added locks c.args.self.now _ (event c.args.turn c.args.pc c.args.a.now) es c.next_clock-clock.result c.next_word-word.result c.requires.core c.requires.later
+    (rw (← before) (c.next_clock-clock.ensures c.args.pc)) (rw (← before) c.next_word-word.ensures) refl refl refl
     (set_here c.args.self.now.clocks c.args.a.now.core _ _ long) (set_else c.args.self.now.clocks c.args.a.now.core _ _)
     (ap (λ o. unwrap_or o blank) c.in-Ok.ensures.updates.1)
     (λ w h. ap (λ o. unwrap_or o blank) (c.in-Ok.ensures.updates.2 w (not_at c.args.a.now.word w h)))
