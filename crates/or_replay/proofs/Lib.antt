@@ -10,3 +10,4 @@ pub mod Followed
 pub mod Followable
 pub mod FirstRefusal
 pub mod BegunTurns
+pub mod LastPlaces

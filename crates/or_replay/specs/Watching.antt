@@ -1,5 +1,6 @@
 -- What is seen of a turn: its access to RAM, and its trace.
-use Rattle.std.specs.Prelude.{◌≡◌, ℕ, ◌+◌, List, [], Option, Some, None, Result, Ok, Err, length, slice_get, option_and_then}
+use Rattle.std.specs.Prelude.{◌≡◌, ℕ, ◌+◌, List, [], Option, Some, None, Result, Ok, Err, length, slice_get, option_and_then, option_map, unwrap_or}
+use Rattle.std.specs.List.{last_or}
 use Rattle.or_model.specs.Core.{Core}
 use Rattle.or_model.specs.Trace.{turn_trace}
 use Rattle.or_model.specs.Turn.{Board}
@@ -8,6 +9,7 @@ use Rattle.or_bus.specs.State.{BusState}
 use Rattle.or_core.specs.Access.{turn_access}
 use Rattle.or_replay.specs.Board.{IsCoreTurned}
 use Rattle.or_replay.specs.declared.board.Refused.{Refused}
+use Rattle.or_replay.specs.declared.watching.Placed.{Placed}
 
 -- the access to RAM that a turn of core c makes, or none; there is at most one
 unfoldable pub board_access : Board → ℕ → Option Access
@@ -21,10 +23,26 @@ trace_of (Some core) = turn_trace core
 unfoldable pub board_trace : Board → ℕ → List ℕ
 board_trace board c = trace_of (slice_get board.cores c)
 
+-- the pc before the last step of a turn of core c
+abbrev pub board_last_pc : Board → ℕ → ℕ
+board_last_pc board c = unwrap_or (last_or None (board_trace board c)) 0
+
+abbrev pub placed_at : ℕ → Access → Placed
+placed_at pc access = record { pc = pc; access = access }
+
+-- the access to RAM that a turn of core c makes, or none, with the pc of the instruction that makes it: the turn's last
+unfoldable pub board_placed : Board → ℕ → Option Placed
+board_placed board c = option_map (placed_at (board_last_pc board c)) (board_access board c)
+
 -- the access of a turn that was made
 abbrev pub IsObserved : Board → ℕ → Result (Option Access) Refused → Type 0
 IsObserved board c (Ok access) = access ≡ board_access board c
 IsObserved board c (Err refused) = Unit {0}
+
+-- the same with the pc of the access
+abbrev pub IsPlaced : Board → ℕ → Result (Option Placed) Refused → Type 0
+IsPlaced board c (Ok placed) = placed ≡ board_placed board c
+IsPlaced board c (Err refused) = Unit {0}
 
 -- the trace of a turn that was made, or none
 abbrev pub IsTraced : Board → ℕ → Result (Unit {0}) Refused → List ℕ → Type 0

@@ -17,3 +17,4 @@ pub use follow::{TurnFault, Unwatched, Watcher};
 pub use opening::OpenFault;
 pub use reporting::{append_stop, core_text, report};
 pub use stepping::Breakpoint;
+pub use watching::Placed;
