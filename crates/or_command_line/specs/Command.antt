@@ -93,7 +93,7 @@ unfoldable pub back_of : List (List ℕ) → Option Shown
 back_of (image ∷ input ∷ schedule ∷ script ∷ options) = back_where (record { image = image; input = input; schedule = schedule }) script options
 back_of _ = None
 
--- `IMAGE INPUT SCHED [--locks]`
+-- `IMAGE INPUT SCHED [--locks] [--where]`
 abbrev pub race_with : Recorded → Option RaceOptions → Option Shown
 race_with files None = None
 race_with files (Some options) = Some (race files options)

@@ -52,7 +52,7 @@ is_option verb word =
     if bytes_eq verb (codes "asm") then bytes_eq word (codes "--symbols") else
     if bytes_eq verb (codes "back") then bytes_eq word (codes "--every") else
     if bytes_eq verb (codes "bench") then bytes_eq word (codes "--stay") else
-    if bytes_eq verb (codes "race") then bytes_eq word (codes "--locks") else
+    if bytes_eq verb (codes "race") then bytes_eq word (codes "--locks") || bytes_eq word (codes "--where") else
     false
 
 abbrev pub missing : List ℕ → List ℕ → List ℕ

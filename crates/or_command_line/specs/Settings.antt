@@ -140,11 +140,14 @@ flag_without_rest (given, word ∷ rest) = None
 unfoldable pub symbols_alone_of : List (List ℕ) → Option Bool
 symbols_alone_of words = flag_without_rest (flag_of (codes "--symbols") words)
 
-abbrev pub race_options_with : Bool × List (List ℕ) → Option RaceOptions
-race_options_with (locks, []) = Some (record { locks = locks })
-race_options_with (locks, word ∷ rest) = None
+abbrev pub race_options_with_places : Bool → Bool × List (List ℕ) → Option RaceOptions
+race_options_with_places locks (places, []) = Some (record { locks = locks; places = places })
+race_options_with_places locks (places, word ∷ rest) = None
 
--- the options of a race report: `[--locks]`; none where a word is no option here
+abbrev pub race_options_with : Bool × List (List ℕ) → Option RaceOptions
+race_options_with (locks, rest) = race_options_with_places locks (flag_of (codes "--where") rest)
+
+-- the options of a race report: `[--locks] [--where]`; none where a word is no option here
 unfoldable pub race_options_of : List (List ℕ) → Option RaceOptions
 race_options_of words = race_options_with (flag_of (codes "--locks") words)
 

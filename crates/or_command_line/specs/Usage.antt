@@ -78,9 +78,9 @@ debug_usage words = then_end (codes "debug") words (session_words (codes "debug"
 abbrev pub back_usage : List (List ℕ) → List ℕ
 back_usage words = then_end (codes "back") words (then_option (codes "back") (codes "--every") (Number 1 536870912) (session_words (codes "back") words))
 
--- `IMAGE INPUT SCHED [--locks]`
+-- `IMAGE INPUT SCHED [--locks] [--where]`
 abbrev pub race_usage : List (List ℕ) → List ℕ
-race_usage words = then_end (codes "race") words (then_flag (codes "--locks") (recorded_words (codes "race") words))
+race_usage words = then_end (codes "race") words (then_flag (codes "--where") (then_flag (codes "--locks") (recorded_words (codes "race") words)))
 
 -- `IMAGE INPUT SCHED`
 abbrev pub recorded_usage : List ℕ → List (List ℕ) → List ℕ

@@ -64,6 +64,8 @@ pub struct Hunt<'a> {
 pub struct RaceOptions {
     /// Whether plain stores to the words that l.lwa and l.swa access release them.
     pub locks: bool,
+    /// Whether each line tells where its accesses were made, by the image's symbols.
+    pub places: bool,
 }
 
 /// `IMAGE INPUT SCHED`: the files of a recorded run.

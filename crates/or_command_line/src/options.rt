@@ -219,8 +219,9 @@ pub(crate) fn race_options(words: &[String]) -> Option<RaceOptions>
     ensures value { result ≡ race_options_of (texts words.now) }
 {
     let (locks, rest) = flag("--locks", words);
+    let (places, rest) = flag("--where", rest);
     if rest.is_empty() {
-        Some(RaceOptions { locks })
+        Some(RaceOptions { locks, places })
     } else {
         None
     }

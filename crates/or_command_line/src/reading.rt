@@ -96,7 +96,7 @@ fn is_option(verb: &str, word: &str) -> bool
         "asm" => word == "--symbols",
         "back" => word == "--every",
         "bench" => word == "--stay",
-        "race" => word == "--locks",
+        "race" => word == "--locks" || word == "--where",
         _ => false,
     }
 }

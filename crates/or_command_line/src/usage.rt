@@ -166,11 +166,8 @@ fn back_usage(words: &[String]) -> Sentence<'_>
 fn race_usage(words: &[String]) -> Sentence<'_>
     ensures { sentence_text result ≡ race_usage (texts words.now) }
 {
-    then_end(
-        "race",
-        words,
-        then_flag("--locks", recorded_words("race", words)),
-    )
+    let so_far = then_flag("--locks", recorded_words("race", words));
+    then_end("race", words, then_flag("--where", so_far))
 }
 
 fn recorded_usage<'a>(verb: &'a str, words: &'a [String]) -> Sentence<'a>
