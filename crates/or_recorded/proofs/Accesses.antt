@@ -1,6 +1,6 @@
 -- The cores of a board stay in order of number, and the access of a turn is made by the core whose turn it is.
 use Rattle.std.proofs.Common.{◌≡◌, ◌∙◌, refl, sym, ap, subst, ℕ, zero, suc, List, [], ◌∷◌, Bool, true, false, cond, Some, None, ◌⊎◌, inl, inr}
-use Rattle.std.specs.Prelude.{Option, slice_get, slice_set, option_and_then, ◌&&◌, is_none}
+use Rattle.std.specs.Prelude.{Option, slice_get, slice_set, option_and_then, option_map, ◌&&◌, is_none}
 use Rattle.or_isa.specs.Decode.{decode_of}
 use Rattle.or_model.specs.declared.Route.{Route}
 use Rattle.or_model.specs.declared.Route.TheVariants.{Refused, At}
@@ -14,7 +14,9 @@ use Rattle.or_bus.specs.declared.access.Access.{Access}
 use Rattle.or_bus.specs.declared.access.AccessKind.{AccessKind}
 use Rattle.or_bus.specs.Last.{access_of}
 use Rattle.or_core.specs.Access.{memory_operand, is_made, access_at, access_by, access_of_word, word_by, step_access, turn_access}
-use Rattle.or_replay.specs.Watching.{board_access}
+use Rattle.or_replay.specs.declared.watching.Placed.{Placed}
+use Rattle.or_replay.specs.Watching.{board_access, board_placed}
+use Rattle.or_replay.proofs.LastPlaces.{access_alone}
 use Rattle.or_recorded.specs.Racing.{AreNumbered}
 
 -- ---- private steps keep the core's number
@@ -122,6 +124,9 @@ by_core world c a None numbered is = absurd (let e : ⊥ = cc in e)
 by_core world c a (Some core) numbered is = turn_access-core core world a is ∙ numbered core refl
 
 -- the access of a turn of core c
-pub board_access-core : (board : Board) (c : ℕ) (a : Access) → AreNumbered board.cores → board_access board c ≡ Some a → a.core ≡ c
+board_access-core : (board : Board) (c : ℕ) (a : Access) → AreNumbered board.cores → board_access board c ≡ Some a → a.core ≡ c
 unfolding board_access
 board_access-core board c a numbered is = by_core board.world c a (slice_get board.cores c) (λ core at. numbered c core at) is
+
+pub board_placed-core : (board : Board) (c : ℕ) (a : Placed) → AreNumbered board.cores → board_placed board c ≡ Some a → a.access.core ≡ c
+board_placed-core board c a numbered is = board_access-core board c a.access numbered (sym (access_alone board c) ∙ ap (λ (o : Option Placed). option_map (λ (at : Placed). at.access) o) is)

@@ -10,7 +10,7 @@ use Rattle.or_race.proofs.OneReport.{one_text}
 use Rattle.or_recorded.specs.Files.{Files}
 use Rattle.or_recorded.specs.Command.{Run, IsRunOf, start_of}
 use Rattle.or_recorded.specs.Events.{events_of}
-use Rattle.or_recorded.specs.Race.{RaceWrites}
+use Rattle.or_recorded.specs.Race.{symbols_for, RaceWrites}
 
 pub one_run : (files : Files) (run other : Run) → IsRunOf files run → IsRunOf files other → run ≡ other
 one_run files run other is also =
@@ -25,6 +25,6 @@ pub one_race_report : (names : Recorded) (options : RaceOptions) (read : List (L
     → RaceWrites names options read others other → (outs ≡ others) × (console ≡ other)
 one_race_report names options read outs others console other is also =
     let same = one_run _ is.made.run also.made.run is.made.is also.made.is in
-    let first : RaceText options.locks (events_of (start_of also.made.run) also.made.run.turns) console =
-    subst (λ (run : Run). RaceText options.locks (events_of (start_of run) run.turns) console) same is.made.makes in
-    (is.outputs ∙ sym also.outputs, one_text options.locks (events_of (start_of also.made.run) also.made.run.turns) console other first also.made.makes)
+    let first : RaceText options.locks (symbols_for options.places also.made.run.files.image) (events_of (start_of also.made.run) also.made.run.turns) console =
+    subst (λ (run : Run). RaceText options.locks (symbols_for options.places run.files.image) (events_of (start_of run) run.turns) console) same is.made.makes in
+    (is.outputs ∙ sym also.outputs, one_text options.locks (symbols_for options.places also.made.run.files.image) (events_of (start_of also.made.run) also.made.run.turns) console other first also.made.makes)

@@ -5,20 +5,20 @@ use Rattle.std.proofs.Math.Seq.{take-suc}
 use Rattle.or_model.specs.Core.{Core}
 use Rattle.or_model.specs.Turn.{Board, board_turned, board_turned_by, running, replay, turn}
 use Rattle.or_bus.specs.State.{BusState}
-use Rattle.or_bus.specs.declared.access.Access.{Access}
+use Rattle.or_replay.specs.declared.watching.Placed.{Placed}
 use Rattle.or_replay.specs.Board.{IsBoard, IsTurned}
-use Rattle.or_replay.specs.Watching.{board_access}
+use Rattle.or_replay.specs.Watching.{board_placed}
 use Rattle.or_words.specs.declared.Config.{Config}
 use Rattle.or_replay.specs.Start.{start}
 use Rattle.or_replay.proofs.Reset.{numbered-reset_cores, length-reset_cores}
 use Rattle.or_replay.proofs.Replaying.{replay_one_more}
 use Rattle.or_race.specs.declared.races.Races.{Races}
-use Rattle.or_race.specs.Event.{Event, event}
+use Rattle.or_race.specs.Event.{Event}
 use Rattle.or_race.specs.Records.{Records, cores_of, last_of}
-use Rattle.or_recorded.specs.Events.{access_made, events_made}
+use Rattle.or_recorded.specs.Events.{event_at, access_made, events_made}
 use Rattle.or_recorded.specs.declared.racing.Accesses.{Accesses}
 use Rattle.or_recorded.specs.Racing.{AreNumbered, AreRaces, SeesRaces}
-use Rattle.or_recorded.proofs.Accesses.{turned-numbered, board_access-core}
+use Rattle.or_recorded.proofs.Accesses.{turned-numbered, board_placed-core}
 
 -- a turn that was made, as the definitions make it
 made_next : {T : Type 0} (turned : Option Board) (done : T) (cores : List Core) (bus : BusState) → IsTurned turned (Ok done) cores bus
@@ -48,24 +48,24 @@ unfolding start
 start-length config image input = length-reset_cores config config.cores
 
 -- the events of one turn more
-events_longer : (start now : Board) (turns : List ℕ) (n : ℕ) (found : Option Access) → replay start (take n turns) ≡ Some now → found ≡ board_access now (slice_index turns n)
-    → events_made start turns (n + 1) ≡ events_made start turns n ++ option_to_list (option_map (event (n + 1)) found)
+events_longer : (start now : Board) (turns : List ℕ) (n : ℕ) (found : Option Placed) → replay start (take n turns) ≡ Some now → found ≡ board_placed now (slice_index turns n)
+    → events_made start turns (n + 1) ≡ events_made start turns n ++ option_to_list (option_map (event_at (n + 1)) found)
 events_longer start now turns n found reached is =
-    let made : access_made start turns n ≡ found = ap (option_and_then (λ board. board_access board (slice_index turns n))) reached ∙ sym is in
-    ap (events_made start turns) (add-one n) ∙ ap (λ a. events_made start turns n ++ option_to_list (option_map (event (n + 1)) a)) made
+    let made : access_made start turns n ≡ found = ap (option_and_then (λ board. board_placed board (slice_index turns n))) reached ∙ sym is in
+    ap (events_made start turns) (add-one n) ∙ ap (λ a. events_made start turns n ++ option_to_list (option_map (event_at (n + 1)) a)) made
 
 -- the access of a turn was added, or memory ran out
-abbrev pub IsAdded : Accesses → Accesses → ℕ → Access → Type 0
+abbrev pub IsAdded : Accesses → Accesses → ℕ → Placed → Type 0
 IsAdded old new turn a =
-    (new.lost ≡ true) ⊎ (((locks : Bool) (es : List Event) → Records locks old.races es → Records locks new.races (es ++ event turn a ∷ [])) × (last_of new.races ≡ turn) × (cores_of new.races ≡ cores_of old.races))
+    (new.lost ≡ true) ⊎ (((locks : Bool) (es : List Event) → Records locks old.races es → Records locks new.races (es ++ event_at turn a ∷ [])) × (last_of new.races ≡ turn) × (cores_of new.races ≡ cores_of old.races))
 
 module _ (locks : Bool) where
   -- the turn at a place is made, with this access or none, and it is recorded
-  pub followed_on : (start : Board) (turns : List ℕ) (n : ℕ) (found : Option Access) (old new : Races) (cores new_cores : List Core) (bus new_bus : BusState)
+  pub followed_on : (start : Board) (turns : List ℕ) (n : ℕ) (found : Option Placed) (old new : Races) (cores new_cores : List Core) (bus new_bus : BusState)
       → n < length turns → AreRaces locks start turns n old cores bus
       → ((board : Board) → IsBoard cores bus board → IsTurned (board_turned board (slice_index turns n)) (Ok found) new_cores new_bus)
-      → ((board : Board) → IsBoard cores bus board → found ≡ board_access board (slice_index turns n))
-      → ((es : List Event) → Records locks old es → Records locks new (es ++ option_to_list (option_map (event (n + 1)) found)))
+      → ((board : Board) → IsBoard cores bus board → found ≡ board_placed board (slice_index turns n))
+      → ((es : List Event) → Records locks old es → Records locks new (es ++ option_to_list (option_map (event_at (n + 1)) found)))
       → last_of new ≤ n + 1 → cores_of new ≡ cores_of old → AreRaces locks start turns (n + 1) new new_cores new_bus
   followed_on start turns n found old new cores new_cores bus new_bus inside is turned access records last many =
       let c = slice_index turns n in
@@ -83,20 +83,20 @@ module _ (locks : Bool) where
       }
 
   -- an access is recorded, or none
-  pub some_more : (n : ℕ) (found : Option Access) (a : Access) (old new : Races) → found ≡ Some a
-      → ((es : List Event) → Records locks old es → Records locks new (es ++ event (n + 1) a ∷ [])) → (es : List Event) → Records locks old es → Records locks new (es ++ option_to_list (option_map (event (n + 1)) found))
+  pub some_more : (n : ℕ) (found : Option Placed) (a : Placed) (old new : Races) → found ≡ Some a
+      → ((es : List Event) → Records locks old es → Records locks new (es ++ event_at (n + 1) a ∷ [])) → (es : List Event) → Records locks old es → Records locks new (es ++ option_to_list (option_map (event_at (n + 1)) found))
   some_more n found a old new is more es records =
-      subst (λ (f : Option Access). Records locks new (es ++ option_to_list (option_map (event (n + 1)) f))) (sym is) (more es records)
+      subst (λ (f : Option Placed). Records locks new (es ++ option_to_list (option_map (event_at (n + 1)) f))) (sym is) (more es records)
 
-  pub none_more : (n : ℕ) (found : Option Access) (races : Races) → found ≡ None → (es : List Event) → Records locks races es → Records locks races (es ++ option_to_list (option_map (event (n + 1)) found))
+  pub none_more : (n : ℕ) (found : Option Placed) (races : Races) → found ≡ None → (es : List Event) → Records locks races es → Records locks races (es ++ option_to_list (option_map (event_at (n + 1)) found))
   none_more n found races is es records =
-      subst (λ (f : Option Access). Records locks races (es ++ option_to_list (option_map (event (n + 1)) f))) (sym is) (subst (Records locks races) (sym (append-nil es)) records)
+      subst (λ (f : Option Placed). Records locks races (es ++ option_to_list (option_map (event_at (n + 1)) f))) (sym is) (subst (Records locks races) (sym (append-nil es)) records)
 
   -- the access is one of the board's cores
-  pub access_within : (start : Board) (turns : List ℕ) (n : ℕ) (a : Access) (races : Races) (cores : List Core) (bus : BusState) → AreRaces locks start turns n races cores bus
-      → ((board : Board) → IsBoard cores bus board → Some a ≡ board_access board (slice_index turns n)) → slice_index turns n < length cores → a.core < cores_of races
+  pub access_within : (start : Board) (turns : List ℕ) (n : ℕ) (a : Placed) (races : Races) (cores : List Core) (bus : BusState) → AreRaces locks start turns n races cores bus
+      → ((board : Board) → IsBoard cores bus board → Some a ≡ board_placed board (slice_index turns n)) → slice_index turns n < length cores → a.access.core < cores_of races
   access_within start turns n a races cores bus is access inside =
-      let own : a.core ≡ slice_index turns n = board_access-core is.now (slice_index turns n) a is.numbered (sym (access is.now is.is)) in
+      let own : a.access.core ≡ slice_index turns n = board_placed-core is.now (slice_index turns n) a is.numbered (sym (access is.now is.is)) in
       omega (arith, own, inside, is.many)
 
   not_lost : (lost : Bool) → lost ≡ false → lost ≡ true → ⊥
@@ -108,16 +108,16 @@ module _ (locks : Bool) where
   races_of watch start turns n cores bus kept (inl lost) = absurd (not_lost watch.lost kept lost)
   races_of watch start turns n cores bus kept (inr are) = are
 
-  pub add_within : (watch : Accesses) → watch.lost ≡ false → (start : Board) (turns : List ℕ) (n : ℕ) (a : Access) (cores : List Core) (bus : BusState)
-      → SeesRaces locks watch start turns n cores bus → ((board : Board) → IsBoard cores bus board → Some a ≡ board_access board (slice_index turns n))
-      → slice_index turns n < length cores → a.core < cores_of watch.races
+  pub add_within : (watch : Accesses) → watch.lost ≡ false → (start : Board) (turns : List ℕ) (n : ℕ) (a : Placed) (cores : List Core) (bus : BusState)
+      → SeesRaces locks watch start turns n cores bus → ((board : Board) → IsBoard cores bus board → Some a ≡ board_placed board (slice_index turns n))
+      → slice_index turns n < length cores → a.access.core < cores_of watch.races
   add_within watch kept start turns n a cores bus seen access inside =
       access_within start turns n a watch.races cores bus (races_of watch start turns n cores bus kept seen) access inside
 
-  pub seen_some : (start : Board) (turns : List ℕ) (n : ℕ) (found : Option Access) (a : Access) (old new : Accesses) (cores new_cores : List Core) (bus new_bus : BusState)
+  pub seen_some : (start : Board) (turns : List ℕ) (n : ℕ) (found : Option Placed) (a : Placed) (old new : Accesses) (cores new_cores : List Core) (bus new_bus : BusState)
       → n < length turns → old.lost ≡ false → SeesRaces locks old start turns n cores bus
       → ((board : Board) → IsBoard cores bus board → IsTurned (board_turned board (slice_index turns n)) (Ok found) new_cores new_bus)
-      → ((board : Board) → IsBoard cores bus board → found ≡ board_access board (slice_index turns n)) → found ≡ Some a → IsAdded old new (n + 1) a
+      → ((board : Board) → IsBoard cores bus board → found ≡ board_placed board (slice_index turns n)) → found ≡ Some a → IsAdded old new (n + 1) a
       → SeesRaces locks new start turns (n + 1) new_cores new_bus
   seen_some start turns n found a old new cores new_cores bus new_bus inside kept seen turned access is (inl lost) = inl lost
   seen_some start turns n found a old new cores new_cores bus new_bus inside kept seen turned access is (inr added) =
@@ -125,10 +125,10 @@ module _ (locks : Bool) where
       inr (followed_on start turns n found old.races new.races cores new_cores bus new_bus inside (races_of old start turns n cores bus kept seen) turned access
       (some_more n found a old.races new.races is (added.0 locks)) last added.2)
 
-  pub seen_none : (start : Board) (turns : List ℕ) (n : ℕ) (found : Option Access) (watch : Accesses) (cores new_cores : List Core) (bus new_bus : BusState)
+  pub seen_none : (start : Board) (turns : List ℕ) (n : ℕ) (found : Option Placed) (watch : Accesses) (cores new_cores : List Core) (bus new_bus : BusState)
       → n < length turns → watch.lost ≡ false → SeesRaces locks watch start turns n cores bus
       → ((board : Board) → IsBoard cores bus board → IsTurned (board_turned board (slice_index turns n)) (Ok found) new_cores new_bus)
-      → ((board : Board) → IsBoard cores bus board → found ≡ board_access board (slice_index turns n)) → found ≡ None
+      → ((board : Board) → IsBoard cores bus board → found ≡ board_placed board (slice_index turns n)) → found ≡ None
       → SeesRaces locks watch start turns (n + 1) new_cores new_bus
   seen_none start turns n found watch cores new_cores bus new_bus inside kept seen turned access is =
       let are = races_of watch start turns n cores bus kept seen in

@@ -1,6 +1,6 @@
 -- From the parts of a replay to its outcome.
 use Rattle.std.proofs.Common.{◌≡◌, ◌∙◌, sym, ap, subst, ℕ, ◌≤◌, List, [], ◌∷◌, ◌++◌, length, Option, Some, None, Bool, true, false, cond, refl}
-use Rattle.or_words.specs.declared.limits.TheConstants.{INPUT_LIMIT, RECORDING_LIMIT}
+use Rattle.or_words.specs.declared.limits.TheConstants.{IMAGE_LIMIT, INPUT_LIMIT, RECORDING_LIMIT}
 use Rattle.or_host.specs.HostState.{HostState}
 use Rattle.or_model.specs.Core.{Core}
 use Rattle.or_model.specs.Turn.{Board}
@@ -39,7 +39,7 @@ report_is bytes run report console cores bus turns same_cores same_bus count rep
     }
 
 -- an image that was read is within its limit
-pub image_small : (names : Recorded) (files : List (List ℕ)) (state : HostState) → AreRead (replay_loads names) files state → length (bytes_in names files).image ≤ 67108864
+pub image_small : (names : Recorded) (files : List (List ℕ)) (state : HostState) → AreRead (replay_loads names) files state → length (bytes_in names files).image ≤ IMAGE_LIMIT
 image_small names [] state read = absurd read
 image_small names (file ∷ files) state read = read.1
 

@@ -1,6 +1,7 @@
 //! The checks of a recorded run, in their order: the recording's text, the digests of the image and of the input, the image,
 //! and then the turns with their marks.
 ghost use Rattle.std.specs.Prelude.{◌≡◌, ◌≢◌, ◌≤◌, ◌⊎◌, ◌/◌, [], ℕ, List, Some, None, Err, true, false, IfOk, MatchResult, length};
+ghost use Rattle.or_words.specs.declared.limits.TheConstants.{IMAGE_LIMIT};
 ghost use Rattle.sha2.specs.Sha256.{sha256};
 ghost use Rattle.or_words.specs.Settings.{Fits, ram_bytes};
 ghost use Rattle.or_elf.specs.Fault.{elf_fault};
@@ -68,7 +69,7 @@ impl Checked {
 ///
 /// Errors: the first check that fails; NoMemory.
 pub fn check(alloc: Global, files: RecordedFiles<'_>) -> Result<Checked, RunFault>
-    requires limit { length files.image.now ≤ 67108864 }
+    requires limit { length files.image.now ≤ IMAGE_LIMIT }
     ensures { MatchResult result (λ run. IsRunChecked files.entry.image.now files.entry.input.now files.entry.recording.now run)
         (λ fault. IsFirstFault files.entry.image.now files.entry.input.now files.entry.recording.now fault) }
 {
@@ -90,7 +91,7 @@ pub(crate) fn open_run(
     input: &[u8],
     text: &[u8],
 ) -> Result<Checked, RunFault>
-    requires limit { length image.now ≤ 67108864 }
+    requires limit { length image.now ≤ IMAGE_LIMIT }
     ensures run { MatchResult result (λ run. IsRunOpened image.now input.now text.now run) (λ fault. IsFirstFault image.now input.now text.now fault) }
     ensures fits { IfOk result (λ run. Fits run.recording.head.config) }
 {
@@ -128,7 +129,7 @@ fn check_digests(
     image: &[u8],
     input: &[u8],
 ) -> Result<Checked, RunFault>
-    requires limit { length image.now ≤ 67108864 }
+    requires limit { length image.now ≤ IMAGE_LIMIT }
     requires fits { Fits recording.head.config }
     ensures run { (text : List ℕ) → IsRecording text recording.head recording.turns.items recording.marks.items
         → MatchResult result (λ run. IsRunOpened image.now input.now text run) (λ fault. IsFirstFault image.now input.now text fault) }
@@ -162,7 +163,7 @@ fn check_image(
     image: &[u8],
     input: &[u8],
 ) -> Result<Checked, RunFault>
-    requires limit { length image.now ≤ 67108864 }
+    requires limit { length image.now ≤ IMAGE_LIMIT }
     requires fits { Fits recording.head.config }
     ensures run { (text : List ℕ) → IsOfRun image.now input.now text recording.head recording.turns.items recording.marks.items
         → MatchResult result (λ run. IsRunOpened image.now input.now text run) (λ fault. IsFirstFault image.now input.now text fault) }
@@ -182,7 +183,7 @@ pub fn open_board(
     image: &[u8],
     input: &[u8],
 ) -> Result<Board, OpenFault>
-    requires limit { length image.now ≤ 67108864 }
+    requires limit { length image.now ≤ IMAGE_LIMIT }
     requires fits { Fits config.now }
     ensures board { MatchResult result
         (λ board. (elf_fault image.now (ram_bytes config.now) ≡ None) × IsBoard board.cores board.bus (start config.now image.now input.now))

@@ -1,5 +1,6 @@
 //! Any command on a recorded run: it loads the files, checks them, follows the turns once, makes its texts, and writes them.
 ghost use Rattle.std.specs.Prelude.{◌≡◌, ◌≤◌, [], ℕ, List, Option, None, IfOk, MatchResult, length};
+ghost use Rattle.or_words.specs.declared.limits.TheConstants.{IMAGE_LIMIT, SCRIPT_LIMIT};
 ghost use Rattle.or_host.specs.HostState.{HostState};
 ghost use Rattle.or_words.specs.Settings.{Fits, ram_bytes};
 ghost use Rattle.or_elf.specs.Fault.{elf_fault};
@@ -54,7 +55,7 @@ pub trait RecordedCommand {
         files: Files<'_>,
         config: &Config,
     ) -> Result<Self::Watch, NoMemory>
-        requires limit { length files.image.now ≤ 67108864 }
+        requires limit { length files.image.now ≤ IMAGE_LIMIT }
         requires fits { Fits config.now }
         requires sound { elf_fault files.image.now (ram_bytes config.now) ≡ None }
         ensures { IfOk result (λ watch. (turns : List ℕ) (cores : List CoreModel) (bus : BusState)
@@ -69,8 +70,8 @@ pub trait RecordedCommand {
         run: Checked,
         watch: Self::Watch,
     ) -> Result<Texts, OwnFault>
-        requires limit { length files.image.now ≤ 67108864 }
-        requires script { length files.script.now ≤ 1048576 }
+        requires limit { length files.image.now ≤ IMAGE_LIMIT }
+        requires script { length files.script.now ≤ SCRIPT_LIMIT }
         requires fits { Fits run.recording.head.config }
         requires checked { IsRunChecked files.image.now files.input.now files.recording.now run }
         requires seen { Self.Watch.Sees watch (start_of (run_of (bytes_of_files files) run.recording))
@@ -89,8 +90,8 @@ fn texts_of_run<C: RecordedCommand>(
     run: Checked,
     mut watch: C::Watch,
 ) -> Result<Texts, Fault>
-    requires limit { length files.image.now ≤ 67108864 }
-    requires script { length files.script.now ≤ 1048576 }
+    requires limit { length files.image.now ≤ IMAGE_LIMIT }
+    requires script { length files.script.now ≤ SCRIPT_LIMIT }
     requires fits { Fits run.recording.head.config }
     requires opened { IsRunOpened files.image.now files.input.now files.recording.now run }
     requires seen { C.Watch.Sees watch (start_of (run_of (bytes_of_files files) run.recording)) run.recording.turns.items 0 run.board.cores run.board.bus }
@@ -113,8 +114,8 @@ fn make_texts<C: RecordedCommand>(
     command: &C,
     files: Files<'_>,
 ) -> Result<Texts, Fault>
-    requires limit { length files.image.now ≤ 67108864 }
-    requires script { length files.script.now ≤ 1048576 }
+    requires limit { length files.image.now ≤ IMAGE_LIMIT }
+    requires script { length files.script.now ≤ SCRIPT_LIMIT }
     ensures { MatchResult result
         (λ texts. IsMade (C.fault command.now) (C.Makes command.now) (bytes_of_files files.entry) texts.report.items texts.console.items)
         (λ fault. IsFault (C.fault command.now) (C.Makes command.now) (bytes_of_files files.entry) fault) }
@@ -155,8 +156,8 @@ fn finish<'a, C: RecordedCommand, H: Host>(
     host: &mut H,
 ) -> Outcome<'a>
     requires names { AreNames (names_of names.now) }
-    requires limit { length (files_in (names_of names.now) (bytes_of read.now)).image ≤ 67108864 }
-    requires script { length (files_in (names_of names.now) (bytes_of read.now)).script ≤ 1048576 }
+    requires limit { length (files_in (names_of names.now) (bytes_of read.now)).image ≤ IMAGE_LIMIT }
+    requires script { length (files_in (names_of names.now) (bytes_of read.now)).script ≤ SCRIPT_LIMIT }
     ensures outcome { GoesOn (Verdict (C.fault command.now) (C.Makes command.now) (names_of names.now)) (Writes (C.fault command.now) (C.Makes command.now) (names_of names.now))
         (bytes_of read.now) (end_of result) (H.state host.old) (H.state host.new) }
     ensures silent { Silent (H.state host.old) (H.state host.new) }

@@ -1,21 +1,29 @@
 //! The command `race`: the turns are made one by one, and the accesses to RAM that they make are added to the race report.
-ghost use Rattle.std.specs.Prelude.{◌≡◌, ◌<◌, ◌≤◌, ◌⊎◌, ◌++◌, [], ◌∷◌, Bool, List, true, IfOk};
-ghost use Rattle.or_race.specs.Event.{Event, event};
+ghost use Rattle.std.specs.Prelude.{◌≡◌, ◌<◌, ◌≤◌, ◌⊎◌, ◌++◌, [], ◌∷◌, Bool, List, None, true, IfOk, MatchResult, length};
+ghost use Rattle.or_words.specs.declared.limits.TheConstants.{IMAGE_LIMIT};
+ghost use Rattle.or_race.specs.Event.{Event};
 ghost use Rattle.or_race.specs.Records.{Records, cores_of, last_of};
 ghost use Rattle.or_race.specs.Text.{RaceText};
+ghost use Rattle.or_recorded.specs.Events.{event_at};
+ghost use Rattle.or_recorded.specs.Race.{symbols_for, fault_for};
+ghost use Rattle.or_recorded.specs.Refused.{Fails};
 
 use crate::checked::Checked;
 use crate::command::{RecordedCommand, Texts};
 use crate::files::Files;
 use crate::refused::OwnFault;
-use or_bus::Access;
+use or_elf::{SymFault, Symbols};
 use or_race::Races;
-use or_replay::{Board, Refused, Watcher};
+use or_replay::{Board, Placed, Refused, Watcher};
 use or_words::{Config, NoMemory};
 use std::alloc::Global;
 
 /// `race`: reports the races of a recorded run, of the accesses to RAM of its turns, with or without locks.
-pub struct Race<const LOCKS: bool>;
+#[derive(Clone, Copy)]
+pub struct Race<const LOCKS: bool> {
+    /// Whether each line tells where its accesses were made, by the image's symbols.
+    pub places: bool,
+}
 
 // The accesses of the turns so far, unless memory has run out.
 #[derive(Drop)]
@@ -32,14 +40,14 @@ pub struct RaceWatch<const LOCKS: bool> {
 
 impl Accesses {
     // Adds the access of a turn.
-    fn add(&mut self, turn: u64, access: &Access)
-        requires core { access.now.core < cores_of self.old.races }
+    fn add(&mut self, turn: u64, placed: &Placed)
+        requires core { placed.now.access.core < cores_of self.old.races }
         requires later { last_of self.old.races < turn }
         ensures { (self.new.lost ≡ true)
-            ⊎ (((locks : Bool) (events : List Event) → Records locks self.old.races events → Records locks self.new.races (events ++ event turn access.now ∷ []))
+            ⊎ (((locks : Bool) (events : List Event) → Records locks self.old.races events → Records locks self.new.races (events ++ event_at turn placed.now ∷ []))
             × (last_of self.new.races ≡ turn) × (cores_of self.new.races ≡ cores_of self.old.races)) }
     {
-        match self.races.add(turn, access) {
+        match self.races.add(turn, placed.pc, &placed.access) {
             Ok(()) => {}
             Err(_) => self.lost = true,
         }
@@ -55,9 +63,9 @@ impl<const LOCKS: bool> Watcher for RaceWatch<LOCKS> {
         if self.accesses.lost {
             return board.turn(turns[place]);
         }
-        match board.observe(turns[place]) {
-            Ok(Some(access)) => {
-                self.accesses.add(place as u64 + 1, &access);
+        match board.observe_placed(turns[place]) {
+            Ok(Some(placed)) => {
+                self.accesses.add(place as u64 + 1, &placed);
                 Ok(())
             }
             Ok(None) => Ok(()),
@@ -69,12 +77,11 @@ impl<const LOCKS: bool> Watcher for RaceWatch<LOCKS> {
 impl<const LOCKS: bool> RecordedCommand for Race<LOCKS> {
     type Watch = RaceWatch<LOCKS>;
 
-    ghost use Rattle.or_recorded.specs.Command.{no_fault};
-    ghost use Rattle.or_recorded.specs.Race.{MakesRaces};
+    ghost use Rattle.or_recorded.specs.Race.{race_fault, MakesRaces};
 
-    ghost fault = { λ _. no_fault };
+    ghost fault = { λ race. race_fault race.places };
 
-    ghost Makes = { λ _. MakesRaces LOCKS };
+    ghost Makes = { λ race. MakesRaces LOCKS race.places };
 
     fn begin(
         &self,
@@ -98,12 +105,15 @@ impl<const LOCKS: bool> RecordedCommand for Race<LOCKS> {
         run: Checked,
         watch: RaceWatch<LOCKS>,
     ) -> Result<Texts, OwnFault> {
-        let _ = files;
         let _ = run;
         if watch.accesses.lost {
             return Err(OwnFault::NoMemory);
         }
-        match report(alloc, &watch.accesses.races) {
+        let symbols = match symbols_for(alloc, self.places, files.image) {
+            Ok(symbols) => symbols,
+            Err(fault) => return Err(fault),
+        };
+        match report(alloc, &watch.accesses.races, &symbols) {
             Ok(console) => Ok(Texts {
                 report: Vec::new(alloc),
                 console,
@@ -113,11 +123,29 @@ impl<const LOCKS: bool> RecordedCommand for Race<LOCKS> {
     }
 }
 
+// The image's symbols, if places are told by them. Errors: their fault; NoMemory.
+fn symbols_for(alloc: Global, places: bool, image: &[u8]) -> Result<Option<Symbols>, OwnFault>
+    requires long { 52 ≤ length image.now }
+    requires short { length image.now ≤ IMAGE_LIMIT }
+    ensures { MatchResult result
+        (λ symbols. (fault_for places image.now ≡ None) × (symbols ≡ symbols_for places image.now))
+        (λ own. Fails own (fault_for places image.now)) }
+{
+    if !places {
+        return Ok(None);
+    }
+    match Symbols::read(alloc, image) {
+        Ok(symbols) => Ok(Some(symbols)),
+        Err(SymFault::NoMemory) => Err(OwnFault::NoMemory),
+        Err(fault) => Err(OwnFault::Symbols(fault)),
+    }
+}
+
 // The text of the race report.
-fn report(alloc: Global, races: &Races) -> Result<Vec<u8>, NoMemory>
-    ensures { IfOk result (λ text. (locks : Bool) (events : List Event) → Records locks races.now events → RaceText locks events text.items) }
+fn report(alloc: Global, races: &Races, symbols: &Option<Symbols>) -> Result<Vec<u8>, NoMemory>
+    ensures { IfOk result (λ text. (locks : Bool) (events : List Event) → Records locks races.now events → RaceText locks symbols.now events text.items) }
 {
     let mut text = Vec::new(alloc);
-    races.write(&mut text)?;
+    races.write(symbols, &mut text)?;
     Ok(text)
 }

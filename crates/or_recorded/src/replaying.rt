@@ -1,5 +1,6 @@
 //! The command `replay`.
 ghost use Rattle.std.specs.Prelude.{◌≡◌, ◌≤◌, [], ◌∷◌, ℕ, List, IfOk, length};
+ghost use Rattle.or_words.specs.declared.limits.TheConstants.{IMAGE_LIMIT};
 ghost use Rattle.or_host.specs.HostState.{HostState};
 ghost use Rattle.or_host.specs.Calls.{IsName};
 ghost use Rattle.or_command.specs.Leaves.{Silent};
@@ -68,7 +69,7 @@ fn finish<'a, H: Host>(
     host: &mut H,
 ) -> Outcome<'a>
     requires name { IsName report.now }
-    requires limit { length (bytes_in (recorded_names names.now) (bytes_of files.now)).image ≤ 67108864 }
+    requires limit { length (bytes_in (recorded_names names.now) (bytes_of files.now)).image ≤ IMAGE_LIMIT }
     ensures outcome { GoesOn (RecordedVerdict (recorded_names names.now)) (ReplayWrites (recorded_names names.now) report.now) (bytes_of files.now) (end_of result) (H.state host.old) (H.state host.new) }
     ensures silent { Silent (H.state host.old) (H.state host.new) }
 {

@@ -6,4 +6,4 @@ pub returns : goal.returns
 returns c = λ locks es r.
     let written = c.in_ok-write.ensures.ok locks es r in
     let same : c.write.new.out.items ≡ written.0 = search rules in
-    subst (λ (t : List ℕ). RaceText locks es t) (sym same) written.1
+    subst (λ (t : List ℕ). RaceText locks c.args.symbols.now es t) (sym same) written.1
