@@ -61,11 +61,7 @@ fn append_places(
 
 // Appends a line.
 #[tactic(auto, unfolding(crate::specs::Text::line_text))]
-fn append_line(
-    symbols: &Option<Symbols>,
-    line: &Line,
-    out: &mut Vec<u8>,
-) -> Result<(), AllocError>
+fn append_line(symbols: &Option<Symbols>, line: &Line, out: &mut Vec<u8>) -> Result<(), AllocError>
     ensures { OnOk result (out.new.items ≡ out.old.items ++ line_text symbols.now line.now) }
 {
     out.extend_from_slice(b"race ")?;

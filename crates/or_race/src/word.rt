@@ -129,7 +129,10 @@ fn latest_race(
     let mut first_core = 0;
     for core in 0..cores {
         let conflicting = last_conflicting(a.kind, word, core);
-        if core != a.core && clock[core as usize] < conflicting.turn && first.turn < conflicting.turn {
+        if core != a.core
+            && clock[core as usize] < conflicting.turn
+            && first.turn < conflicting.turn
+        {
             first = conflicting;
             first_core = core;
         }
