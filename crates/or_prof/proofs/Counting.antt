@@ -5,7 +5,7 @@ use Rattle.std.proofs.lemmas.Bool.Decides.{nat_tests}
 use Rattle.std.proofs.lemmas.List.Sums.{sum_by-append}
 use Rattle.std.proofs.lemmas.List.{length-append}
 use Rattle.std.specs.Prelude.{IfSome, slice_get, slice_index, slice_set, count_by, if◌then◌else◌, nat_lt}
-use Rattle.or_elf.specs.declared.symbols.Function.{Function}
+use Rattle.or_elf.specs.declared.symbols.Symbol.{Symbol as Function}
 use Rattle.or_elf.specs.Symbols.{SymbolTable, covers, later_start, innermost, function_of}
 use Rattle.or_prof.specs.Tally.{Counts, count_in, counted, AreBelow}
 use Rattle.or_prof.specs.Profile.{is_same, AreCounts}
@@ -25,14 +25,14 @@ where_covers P true function is = is
 where_covers P false function is = tt
 
 -- the innermost function is one of the functions
-pub innermost_holds : (P : Function → Type 0) (functions : List Function) (pc : ℕ) → ((k : ℕ) (function : Function) → slice_get functions k ≡ Some function → P function)
-    → IfSome (innermost functions pc) P
+pub innermost_holds : (P : Function → Type 0) (functions : List Function) (address count : ℕ) → ((k : ℕ) (function : Function) → slice_get functions k ≡ Some function → P function)
+    → IfSome (innermost functions address count) P
 unfolding innermost
-innermost_holds P [] pc each = tt
-innermost_holds P (function ∷ others) pc each =
-    later_holds P (if covers pc function then Some function else None) (innermost others pc)
-    (where_covers P (covers pc function) function (each zero function refl))
-    (innermost_holds P others pc (λ k other found. each (suc k) other found))
+innermost_holds P [] address count each = tt
+innermost_holds P (function ∷ others) address count each =
+    later_holds P (if covers address count function then Some function else None) (innermost others address count)
+    (where_covers P (covers address count function) function (each zero function refl))
+    (innermost_holds P others address count (λ k other found. each (suc k) other found))
 
 index_below : (size : ℕ) (found : Option Function) → IfSome found (λ (function : Function). function.index < size)
     → IfSome (Rattle.std.specs.Option.option_map (λ (function : Function). function.index) found) (λ index. index < size)
@@ -42,7 +42,7 @@ index_below size (Some function) is = is
 -- the index of a pc's function is below the size
 pub function_known : (size : ℕ) (symbols : SymbolTable) (pc : ℕ) → AreBelow size symbols.functions → IfSome (function_of symbols pc) (λ index. index < size)
 function_known size symbols pc below =
-    index_below size (innermost symbols.functions pc) (innermost_holds (λ (function : Function). function.index < size) symbols.functions pc below)
+    index_below size (innermost symbols.functions pc 1) (innermost_holds (λ (function : Function). function.index < size) symbols.functions pc 1 below)
 
 raised_at : (xs : List ℕ) (i j : ℕ) → i < length xs → slice_index (slice_set xs i (slice_index xs i + 1)) j ≡ slice_index xs j + cond (i == j) 1 0
 raised_at xs i j inside = grind (arith, common_steps, nat_tests)

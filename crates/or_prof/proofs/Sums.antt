@@ -6,8 +6,8 @@ use Rattle.std.proofs.lemmas.List.Sorted.{sum_by-IsPermutation}
 use Rattle.std.specs.Prelude.{IfSome, slice_get, sum_by, map, nat_lt}
 use Rattle.std.specs.List.{filter, range_with_len}
 use Rattle.std.specs.Option.{option_map}
-use Rattle.or_elf.specs.declared.symbols.Function.{Function}
-use Rattle.or_elf.specs.Symbols.{SymbolTable, is_function, symbol_start, function_at, functions_among, symbol_table, symbols_in, symbols_of, has_sections, no_symbols, section_at, innermost, function_of}
+use Rattle.or_elf.specs.declared.symbols.Symbol.{Symbol as Function}
+use Rattle.or_elf.specs.Symbols.{SymbolTable, function_type, is_of_type, symbol_start, symbol_at, symbols_among, symbol_table, symbols_in, symbols_of, has_sections, no_symbols, section_at, innermost, function_of}
 use Rattle.or_prof.specs.declared.ranking.Line.{Line}
 use Rattle.or_prof.specs.Profile.{is_same, count_of}
 use Rattle.or_prof.specs.Text.{line_of, lines_of, AreRanked}
@@ -70,24 +70,24 @@ lower low high [] less ascend = tt
 lower low high (function ∷ others) less ascend = (let at = ascend.0 in omega arith, ascend.1)
 
 -- of the symbols from an index on
-kept_or_not : (bytes : List ℕ) (first index : ℕ) (keeps : Bool) (others : List ℕ) → Ascend (suc index) (map (function_at bytes first) others)
-    → Ascend index (map (function_at bytes first) (cond keeps (index ∷ others) others))
+kept_or_not : (bytes : List ℕ) (first index : ℕ) (keeps : Bool) (others : List ℕ) → Ascend (suc index) (map (symbol_at bytes first) others)
+    → Ascend index (map (symbol_at bytes first) (cond keeps (index ∷ others) others))
 unfolding Ascend
 kept_or_not bytes first index true others ascend = (omega arith, ascend)
-kept_or_not bytes first index false others ascend = lower index (suc index) (map (function_at bytes first) others) (omega arith) ascend
+kept_or_not bytes first index false others ascend = lower index (suc index) (map (symbol_at bytes first) others) (omega arith) ascend
 
-among_ascend : (bytes : List ℕ) (first index count : ℕ) → Ascend index (functions_among bytes first index count)
-unfolding functions_among Ascend
-among_ascend bytes first index zero = tt
-among_ascend bytes first index (suc count) =
-    kept_or_not bytes first index (is_function bytes (symbol_start first index)) (filter (λ i. is_function bytes (symbol_start first i)) (range_with_len (index + 1) count))
-    (subst (λ (n : ℕ). Ascend n (map (function_at bytes first) (filter (λ i. is_function bytes (symbol_start first i)) (range_with_len (index + 1) count)))) (add-one index)
-    (among_ascend bytes first (index + 1) count))
+among_ascend : (kind : ℕ) (bytes : List ℕ) (first index count : ℕ) → Ascend index (symbols_among kind bytes first index count)
+unfolding symbols_among Ascend
+among_ascend kind bytes first index zero = tt
+among_ascend kind bytes first index (suc count) =
+    kept_or_not bytes first index (is_of_type kind bytes (symbol_start first index)) (filter (λ i. is_of_type kind bytes (symbol_start first i)) (range_with_len (index + 1) count))
+    (subst (λ (n : ℕ). Ascend n (map (symbol_at bytes first) (filter (λ i. is_of_type kind bytes (symbol_start first i)) (range_with_len (index + 1) count)))) (add-one index)
+    (among_ascend kind bytes first (index + 1) count))
 
 in_ascend : (bytes : List ℕ) (table : Option ℕ) → Ascend 0 ((symbols_in bytes table).functions)
 unfolding Ascend
 in_ascend bytes None = tt
-in_ascend bytes (Some table) = among_ascend bytes ((section_at bytes table).offset) 0 ((section_at bytes table).size / 16)
+in_ascend bytes (Some table) = among_ascend function_type bytes ((section_at bytes table).offset) 0 ((section_at bytes table).size / 16)
 
 where_sections : (bytes : List ℕ) (has : Bool) → Ascend 0 ((cond has (symbols_in bytes (symbol_table bytes)) no_symbols).functions)
 unfolding Ascend
@@ -146,8 +146,8 @@ sum_lines count (function ∷ others) =
 
 -- the function of a pc of a file has an index of its own
 file_known : (bytes : List ℕ) (pc : ℕ) → IfSome (function_of (symbols_of bytes) pc) (λ index. how_often (symbols_of bytes).functions index ≡ 1)
-file_known bytes pc = known_by (innermost (symbols_of bytes).functions pc)
-    (innermost_holds (λ (function : Function). how_often (symbols_of bytes).functions function.index ≡ 1) (symbols_of bytes).functions pc
+file_known bytes pc = known_by (innermost (symbols_of bytes).functions pc 1)
+    (innermost_holds (λ (function : Function). how_often (symbols_of bytes).functions function.index ≡ 1) (symbols_of bytes).functions pc 1
     (λ k function found. once 0 (symbols_of bytes).functions k function (symbols_ascend bytes) found)) where
       known_by : (found : Option Function) → IfSome found (λ (function : Function). how_often (symbols_of bytes).functions function.index ≡ 1)
           → IfSome (option_map (λ (function : Function). function.index) found) (λ index. how_often (symbols_of bytes).functions index ≡ 1)

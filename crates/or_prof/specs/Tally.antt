@@ -1,6 +1,6 @@
 -- What is counted of a core's items: a pc for each of its steps.
 use Rattle.std.specs.Prelude.{◌≡◌, ℕ, ◌+◌, ◌<◌, ◌≤◌, List, Option, Some, None, length, slice_get, slice_index, slice_set, replicate}
-use Rattle.or_elf.specs.declared.symbols.Function.{Function}
+use Rattle.or_elf.specs.declared.symbols.Symbol.{Symbol as Function}
 
 -- how many items have the function with each index, how many have none, and how many there are
 pub record Counts : Type 0 where

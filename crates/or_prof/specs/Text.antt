@@ -4,7 +4,7 @@ use Rattle.std.specs.List.{filter, flat_map}
 use Rattle.std.specs.List.Sorted.{IsPermutation, IsSorted}
 use Rattle.std.specs.Ordering.{nat_cmp, ordering_then}
 use Rattle.std.specs.declared.cmp.Ordering.{Ordering}
-use Rattle.or_elf.specs.declared.symbols.Function.{Function}
+use Rattle.or_elf.specs.declared.symbols.Symbol.{Symbol as Function}
 use Rattle.or_elf.specs.Symbols.{SymbolTable, symbol_name}
 use Rattle.or_prof.specs.declared.ranking.Line.{Line}
 use Rattle.or_prof.specs.Profile.{Addition, items_of, count_of}

@@ -4,7 +4,7 @@ ghost use Rattle.or_prof.specs.Tally.{AreBelow, count_in};
 ghost use Rattle.or_prof.specs.Text.{lines_of, AreRanked};
 
 use crate::tallying::Tally;
-use or_elf::Function;
+use or_elf::Symbol as Function;
 use std::alloc::{AllocError, Global};
 use std::cmp::Reverse;
 

@@ -5,7 +5,7 @@ ghost use Rattle.or_prof.specs.Tally.{no_counts, counted, count_in, AreBelow};
 ghost use Rattle.or_prof.specs.Profile.{AreCounts};
 
 use crate::finding::Finder;
-use or_elf::Function;
+use or_elf::Symbol as Function;
 use std::alloc::{AllocError, Global};
 use std::marker::Model;
 

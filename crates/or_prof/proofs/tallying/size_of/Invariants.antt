@@ -1,6 +1,6 @@
 use Rattle.std.proofs.Common.{◌≡◌, ◌<◌, ℕ, Some}
 use Rattle.std.specs.Prelude.{slice_get}
-use Rattle.or_elf.specs.declared.symbols.Function.{Function}
+use Rattle.or_elf.specs.declared.symbols.Symbol.{Symbol as Function}
 use Rattle.or_prof.proofs.tallying.size_of.Given as goal
 
 abbrev pub invariant-loop-function : goal.invariant-loop-function
