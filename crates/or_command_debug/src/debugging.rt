@@ -1,5 +1,6 @@
 //! The command `debug`.
 ghost use Rattle.std.specs.Prelude.{◌≡◌, ◌≤◌, [], length};
+ghost use Rattle.or_words.specs.declared.limits.TheConstants.{IMAGE_LIMIT, SCRIPT_LIMIT};
 ghost use Rattle.or_host.specs.HostState.{HostState};
 ghost use Rattle.or_host.specs.Calls.{IsName};
 ghost use Rattle.or_words.specs.Settings.{Fits};
@@ -32,8 +33,8 @@ fn text(
     script: &[u8],
 ) -> Result<Vec<u8>, ScriptFault>
     requires fits { Fits recording.now.head.config }
-    requires image { length image.now ≤ 67108864 }
-    requires script { length script.now ≤ 1048576 }
+    requires image { length image.now ≤ IMAGE_LIMIT }
+    requires script { length script.now ≤ SCRIPT_LIMIT }
     ensures { (bytes : RecordedBytes) → image.now ≡ bytes.image → input.now ≡ bytes.input
         → IsChecked bytes.image bytes.input bytes.recording recording.now.head recording.now.turns.items recording.now.marks.items
         → IsText bytes script.now result }
@@ -58,8 +59,8 @@ fn finish<'a, H: Host>(
     files: &[Vec<u8>],
     host: &mut H,
 ) -> Outcome<'a>
-    requires limit { length (bytes_in (recorded_names names.now) (bytes_of files.now)).image ≤ 67108864 }
-    requires script_limit { length (script_bytes (recorded_names names.now).input (bytes_of files.now)) ≤ 1048576 }
+    requires limit { length (bytes_in (recorded_names names.now) (bytes_of files.now)).image ≤ IMAGE_LIMIT }
+    requires script_limit { length (script_bytes (recorded_names names.now).input (bytes_of files.now)) ≤ SCRIPT_LIMIT }
     ensures outcome { GoesOn (DebugVerdict (recorded_names names.now) script.now) (DebugWrites (recorded_names names.now)) (bytes_of files.now) (end_of result) (H.state host.old) (H.state host.new) }
     ensures silent { Silent (H.state host.old) (H.state host.new) }
 {
