@@ -1,10 +1,9 @@
 -- What a run says of the cores that used up their budget: where each of them stands.
-use Rattle.std.specs.Prelude.{ℕ, ◌-◌, ◌==◌, ◌++◌, Bool, true, false, if◌then◌else◌, List, [], Option, Some, None, codes, decimal}
-use Rattle.std.specs.List.{find, flat_map}
+use Rattle.std.specs.Prelude.{ℕ, ◌==◌, ◌++◌, Bool, true, false, if◌then◌else◌, List, [], Option, Some, None, codes, decimal}
+use Rattle.std.specs.List.{flat_map}
 use Rattle.or_text.specs.Hexadecimal.{word_text}
-use Rattle.or_elf.specs.declared.symbols.Function.{Function}
 use Rattle.or_elf.specs.declared.symbol_fault.SymFault.{SymFault}
-use Rattle.or_elf.specs.Symbols.{SymbolTable, symbols_of, symbol_fault, function_of, symbol_name}
+use Rattle.or_elf.specs.Symbols.{SymbolTable, symbols_of, symbol_fault, place_text}
 use Rattle.or_host.specs.HostState.{HostState}
 use Rattle.or_model.specs.declared.Stop.{Stop}
 use Rattle.or_model.specs.declared.Stop.TheVariants.{Exit, Budget}
@@ -19,35 +18,23 @@ unless_faulty symbols (Some fault) = None
 abbrev pub named_functions : List ℕ → Option SymbolTable
 named_functions image = unless_faulty (symbols_of image) (symbol_fault image)
 
-abbrev pub value_of : Option Function → ℕ
-value_of None = 0
-value_of (Some function) = function.value
-
--- the address at which the function with this index starts
-abbrev pub function_start : List Function → ℕ → ℕ
-function_start functions index = value_of (find (λ (function : Function). function.index == index) functions)
-
--- an address by the function that has it and its distance from that function's start
-abbrev pub offset_in : SymbolTable → ℕ → Option ℕ → List ℕ
-offset_in symbols pc None = []
-offset_in symbols pc (Some index) = codes "<" ++ symbol_name symbols index ++ codes "+" ++ decimal (pc - function_start symbols.functions index) ++ codes ">"
-
-abbrev pub offset_text : Option SymbolTable → ℕ → List ℕ
-offset_text None pc = []
-offset_text (Some symbols) pc = offset_in symbols pc (function_of symbols pc)
+-- an address by the function that has it, where the functions are known
+abbrev pub known_place_text : Option SymbolTable → ℕ → List ℕ
+known_place_text None pc = []
+known_place_text (Some symbols) pc = place_text symbols pc
 
 abbrev pub stopped_by_budget : Option Stop → Bool
 stopped_by_budget None = false
 stopped_by_budget (Some Budget) = true
 stopped_by_budget (Some (Exit value)) = false
 
-abbrev pub place_text : Option SymbolTable → ℕ → List ℕ
-place_text symbols pc = word_text pc ++ offset_text symbols pc
+abbrev pub pc_text : Option SymbolTable → ℕ → List ℕ
+pc_text symbols pc = word_text pc ++ known_place_text symbols pc
 
 -- where a core stands that used up its budget
 unfoldable pub used_text : Option SymbolTable → ℕ → ℕ → ℕ → List ℕ
 used_text symbols number budget pc =
-    codes "or1k: core " ++ decimal number ++ codes " used its budget of " ++ decimal budget ++ codes " steps at " ++ place_text symbols pc ++ codes "\n"
+    codes "or1k: core " ++ decimal number ++ codes " used its budget of " ++ decimal budget ++ codes " steps at " ++ pc_text symbols pc ++ codes "\n"
 
 -- the line of a core; of one that has not used up its budget there is none
 abbrev pub budget_line : Option SymbolTable → ℕ → Core → List ℕ

@@ -2,12 +2,11 @@
 ghost use Rattle.std.specs.Prelude.{◌≡◌, ◌≤◌, ◌++◌, length, IfOk, OnOk};
 ghost use Rattle.std.specs.List.{flat_map};
 ghost use Rattle.or_words.specs.declared.limits.TheConstants.{IMAGE_LIMIT};
-ghost use Rattle.or_elf.specs.Symbols.{function_of};
 ghost use Rattle.or_command.specs.Said.{Said};
-ghost use Rattle.or_command_run.specs.Budgets.{named_functions, function_start, offset_in, offset_text, stopped_by_budget, place_text, used_text, budget_line, budget_lines, AreSaidBehind};
+ghost use Rattle.or_command_run.specs.Budgets.{named_functions, known_place_text, stopped_by_budget, pc_text, used_text, budget_line, budget_lines, AreSaidBehind};
 
 use or_core::Core;
-use or_elf::{Function, SymFault, Symbols};
+use or_elf::{SymFault, Symbols};
 use or_host::{Failed, Host};
 use or_model::Stop;
 use or_text::{append_decimal, append_word};
@@ -27,43 +26,16 @@ fn named_functions(alloc: Global, image: &[u8]) -> Result<Option<Symbols>, NoMem
     }
 }
 
-// The address at which the function with this index starts.
-fn function_start(functions: &[Function], index: u32) -> u32
-    ensures { result ≡ function_start functions.now index }
-{
-    let mut rest = functions;
-    while let Some((function, others)) = rest.split_first() {
-        if function.index == index {
-            return function.value;
-        }
-        rest = others;
-    }
-    0
-}
-
-// Appends the function that has an address, and the distance from its start.
-fn append_offset_in(symbols: &Symbols, pc: u32, out: &mut Vec<u8>) -> Result<(), AllocError>
-    ensures { OnOk result (out.new.items ≡ out.old.items ++ offset_in symbols.now pc (function_of symbols.now pc)) }
-{
-    let Some(index) = symbols.find(pc) else {
-        return Ok(());
-    };
-    out.extend_from_slice(b"<")?;
-    if symbols.name(index, out).is_err() {
-        return Err(AllocError);
-    }
-    out.extend_from_slice(b"+")?;
-    let start = function_start(symbols.functions(), index);
-    append_decimal(u64::from(pc.saturating_sub(start)), out)?;
-    out.extend_from_slice(b">")
-}
-
-// The same where the functions are known.
-fn append_offset(symbols: &Option<Symbols>, pc: u32, out: &mut Vec<u8>) -> Result<(), AllocError>
-    ensures { OnOk result (out.new.items ≡ out.old.items ++ offset_text symbols.now pc) }
+// Appends the function that has an address and the distance from its start, where the functions are known.
+fn append_known_place(
+    symbols: &Option<Symbols>,
+    pc: u32,
+    out: &mut Vec<u8>,
+) -> Result<(), AllocError>
+    ensures { OnOk result (out.new.items ≡ out.old.items ++ known_place_text symbols.now pc) }
 {
     match symbols {
-        Some(symbols) => append_offset_in(symbols, pc, out),
+        Some(symbols) => symbols.append_place(pc, out),
         None => Ok(()),
     }
 }
@@ -78,11 +50,11 @@ fn stopped_by_budget(stop: Option<Stop>) -> bool
 }
 
 // Appends an address, and the function that has it.
-fn append_place(symbols: &Option<Symbols>, pc: u32, out: &mut Vec<u8>) -> Result<(), AllocError>
-    ensures { OnOk result (out.new.items ≡ out.old.items ++ place_text symbols.now pc) }
+fn append_pc(symbols: &Option<Symbols>, pc: u32, out: &mut Vec<u8>) -> Result<(), AllocError>
+    ensures { OnOk result (out.new.items ≡ out.old.items ++ pc_text symbols.now pc) }
 {
     append_word(pc, out)?;
-    append_offset(symbols, pc, out)
+    append_known_place(symbols, pc, out)
 }
 
 // Appends where the core of this number stands that used up its budget.
@@ -100,7 +72,7 @@ fn append_used(
     out.extend_from_slice(b" used its budget of ")?;
     append_decimal(u64::from(budget), out)?;
     out.extend_from_slice(b" steps at ")?;
-    append_place(symbols, pc, out)?;
+    append_pc(symbols, pc, out)?;
     out.extend_from_slice(b"\n")?;
     Ok(())
 }
