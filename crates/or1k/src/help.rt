@@ -1,13 +1,17 @@
 //! What the program says of itself.
+use or_cli::Help;
+
+/// What `or1k --version` prints.
+pub(crate) const VERSION: &str = "or1k 0.1.0\n";
 
 /// What `or1k --help` prints before its commands.
-const HEAD: &str = "\
+pub(crate) const HEAD: &str = "\
 or1k: runs OpenRISC programs on one to eight cores, records every interleaving, replays it exactly, steps back
 
 ";
 
 /// What it prints behind them.
-const TAIL: &str = "\
+pub(crate) const TAIL: &str = "\
 or1k COMMAND --help    prints the options of a command, and an example
 or1k --help            prints this text
 or1k --version         prints the version
@@ -18,15 +22,8 @@ output could not be written, 7 out of memory, 8 a file is too long, 9 faulty sou
 two lines on standard error say why.
 ";
 
-/// A command: its name, its words, what it does, and an example.
-struct Help {
-    name: &'static str,
-    words: &'static str,
-    text: &'static str,
-    example: &'static str,
-}
-
-const COMMANDS: [Help; 11] = [
+/// What is told of each command.
+pub(crate) const COMMANDS: [Help<'static>; 11] = [
     Help {
         name: "run",
         words: "IMAGE INPUT SCHED REPORT [--cores N] [--budget N] [--ram N] [--pic latched] [--stay N] [--status]",
@@ -132,30 +129,3 @@ const COMMANDS: [Help; 11] = [
         example: "or1k bench 1 4 1000 bench.sched",
     },
 ];
-
-fn print_command<R: Print>(rt: &R, help: &Help) {
-    let _ = println!(rt; "or1k {} {}", help.name, help.words);
-    let _ = print!(rt; "{}", help.text);
-}
-
-/// Prints what all commands do.
-pub(crate) fn print_all<R: Print>(rt: &R) {
-    let _ = print!(rt; "{HEAD}");
-    for help in &COMMANDS {
-        print_command(rt, help);
-        let _ = println!(rt; "");
-    }
-    let _ = print!(rt; "{TAIL}");
-}
-
-/// Prints what the command of this name does, with an example. False if there is none, and then nothing is printed.
-pub(crate) fn print_one<R: Print>(rt: &R, name: &str) -> bool {
-    for help in &COMMANDS {
-        if help.name == name {
-            print_command(rt, help);
-            let _ = println!(rt; "Example:\n    {}", help.example);
-            return true;
-        }
-    }
-    false
-}

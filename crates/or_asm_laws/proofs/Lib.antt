@@ -10,3 +10,4 @@ pub mod Spelled
 pub mod Spellings
 pub mod Statements
 mod Names
+pub mod Programs

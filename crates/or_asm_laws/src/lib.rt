@@ -39,12 +39,13 @@ pub fn prints_read_back()
         → source_of (org_line (hexadecimal p) ++ 10 ∷ text_of p i) ≡ Ok ((p, word_of i ∷ []) ∷ []) }
 {}
 
-/// The answer for a source is the least fault of the first line that has one, with the word that it is about, or what all its
-/// lines put.
+/// The answer for a source is the least fault of the first line that has one, with the word that it is about, and exactly where none
+/// has, what all its lines put.
 pub fn first_fault_decides()
     ensures refused { (text : List ℕ) (refusal : SourceFault) → source_of text ≡ Err refusal → IsFirstFault text refusal }
     ensures only { (text : List ℕ) (refusal : SourceFault) → IsFirstFault text refusal → source_of text ≡ Err refusal }
     ensures program { (text : List ℕ) (pieces : List (ℕ × List ℕ)) → source_of text ≡ Ok pieces → IsProgram text pieces }
+    ensures whole { (text : List ℕ) (pieces : List (ℕ × List ℕ)) → IsProgram text pieces → source_of text ≡ Ok pieces }
 {}
 
 /// A line has one reading: how it is spelled decides its label and its statement, and each line is spelled so.

@@ -3,3 +3,4 @@ pub mod Lines
 pub mod Script
 pub mod Session
 pub mod Backward
+pub mod Copies

@@ -1,9 +1,10 @@
 //! Copies of boards on the way.
-ghost use Rattle.std.specs.Prelude.{◌≡◌, ◌<◌, ◌≤◌, ◌⊎◌, ℕ, List, IfOk, IfSome, Some, IsTrue, length, slice_get, remove};
+ghost use Rattle.std.specs.Prelude.{◌≡◌, ◌<◌, ◌≤◌, ◌⊎◌, ◌%◌, ℕ, List, IfOk, MatchOption, Some, length, slice_get, remove};
 ghost use Rattle.or_model.specs.Turn.{Board as BoardModel};
 ghost use Rattle.or_replay.specs.Board.{IsBoard};
 ghost use Rattle.or_debug.specs.Standing.{IsAfter};
 ghost use Rattle.or_back.specs.Tells.{AllStand};
+ghost use Rattle.or_back.specs.Copies.{AreMultiples, NoneBetween, IsLatest};
 ghost use Rattle.or_back.specs.declared.history.Checkpoint.{Checkpoint as Kept};
 
 use crate::history::Checkpoint;
@@ -16,14 +17,15 @@ const MOST_KEPT: usize = 3;
 
 // The place of the latest copy that stands behind no more turns than these.
 pub(crate) fn latest(kept: &[Checkpoint], turn: usize) -> Option<usize>
-    ensures { IfSome result (λ i. (one : Kept) × (slice_get kept.now i ≡ Some one) × (one.turn ≤ turn)) }
+    ensures { MatchOption result (NoneBetween kept.now 0 turn) (IsLatest kept.now turn) }
 {
     let mut found = None;
     let mut best = 0;
-    for (i, one) in kept.iter().enumerate() {
-        if one.turn <= turn && best < one.turn {
+    for i in 0..kept.len() {
+        let at = kept[i].turn;
+        if at <= turn && best < at {
             found = Some(i);
-            best = one.turn;
+            best = at;
         }
     }
     found
@@ -44,6 +46,7 @@ pub(crate) fn keep(alloc: Global, kept: &mut Vec<Checkpoint>, board: &mut Board,
     ensures same { (now : BoardModel) → IsBoard board.old.cores board.old.bus now → IsBoard board.new.cores board.new.bus now }
     ensures stand { (start : BoardModel) (turns : List ℕ) → IsAfter start turns turn board.old.cores board.old.bus → AllStand start turns kept.old.items → AllStand start turns kept.new.items }
     ensures few { length kept.old.items ≤ 3 → length kept.new.items ≤ 3 }
+    ensures multiples { (every : ℕ) → turn % every ≡ 0 → 0 < turn → AreMultiples every kept.old.items → AreMultiples every kept.new.items }
 {
     make_room(kept);
     let Ok(copy) = board.copy(alloc) else {
@@ -62,6 +65,7 @@ pub(crate) fn copy_of(
     ensures stand { (start : BoardModel) (turns : List ℕ) → AllStand start turns kept.old.items → AllStand start turns kept.new.items }
     ensures copied { IfOk result (λ r. (start : BoardModel) (turns : List ℕ) → AllStand start turns kept.old.items → IsAfter start turns r.0 r.1.cores r.1.bus) }
     ensures many { length kept.new.items ≡ length kept.old.items }
+    ensures multiples { (every : ℕ) → AreMultiples every kept.old.items → AreMultiples every kept.new.items }
     ensures turn { IfOk result (λ r. (one : Kept) → slice_get kept.old.items i ≡ Some one → r.0 ≡ one.turn) }
 {
     let one = &mut kept[i];

@@ -1,5 +1,6 @@
 //! A history of turns, with copies of a few boards on the way.
 ghost use Rattle.std.specs.Prelude.{◌≤◌, ◌<◌, length};
+ghost use Rattle.or_back.specs.Copies.{AreMultiples};
 
 use or_replay::Board;
 use std::alloc::Global;
@@ -26,4 +27,5 @@ pub struct History {
     pub(crate) ghost within: { at ≤ length turns.items },
     pub(crate) ghost steps: { 0 < every },
     pub(crate) ghost few: { length kept.items ≤ 3 },
+    pub(crate) ghost multiples: { AreMultiples every kept.items },
 }

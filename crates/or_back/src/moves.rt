@@ -3,6 +3,7 @@ ghost use Rattle.std.specs.Prelude.{◌≡◌, ◌+◌, ℕ, ◌<◌, ◌≤◌,
 ghost use Rattle.or_model.specs.Turn.{Board as BoardModel};
 ghost use Rattle.or_debug.specs.Standing.{CanFollow, IsAfter, IsTurnMade};
 ghost use Rattle.or_back.specs.Tells.{AllStand};
+ghost use Rattle.or_back.specs.Copies.{AreMultiples};
 
 use crate::checkpoints::{keep, latest};
 use crate::history::Checkpoint;
@@ -34,6 +35,7 @@ pub(crate) fn step(
     ensures kept { (start : BoardModel) → CanFollow start turns.now → IsAfter start turns.now at board.old.cores board.old.bus
         → AllStand start turns.now kept.old.items → AllStand start turns.now kept.new.items }
     ensures few { length kept.old.items ≤ 3 → length kept.new.items ≤ 3 }
+    ensures multiples { AreMultiples every kept.old.items → AreMultiples every kept.new.items }
 {
     let made = make_turn(board, turns, at);
     if (at as u64 + 1) % every == 0 && !is_kept(kept, at + 1) {
@@ -59,6 +61,7 @@ pub(crate) fn forward(
     ensures kept { (start : BoardModel) → CanFollow start turns.now → IsAfter start turns.now at board.old.cores board.old.bus
         → AllStand start turns.now kept.old.items → AllStand start turns.now kept.new.items }
     ensures few { length kept.old.items ≤ 3 → length kept.new.items ≤ 3 }
+    ensures multiples { AreMultiples every kept.old.items → AreMultiples every kept.new.items }
 {
     for i in at..to {
         step(alloc, board, kept, turns, every, i);

@@ -5,6 +5,7 @@ ghost use Rattle.or_replay.specs.Board.{IsBoard};
 ghost use Rattle.or_debug.specs.Turns.{turn_made};
 ghost use Rattle.or_debug.specs.Standing.{CanFollow};
 ghost use Rattle.or_back.specs.Tells.{Tells};
+ghost use Rattle.or_back.specs.Copies.{NoneBetween, MakesFewer};
 
 use crate::checkpoints::{copy_of, latest};
 use crate::history::History;
@@ -64,6 +65,7 @@ impl History {
         requires { to ≤ length self.old.turns.items }
         ensures tells { (start : BoardModel) (turns : List ℕ) → Tells self.old start turns → Tells self.new start turns }
         ensures ok { OnOk result (self.new.at ≤ to) }
+        ensures nearest { OnOk result (to < self.old.at → NoneBetween self.old.kept.items self.new.at to) }
         ensures err { OnErr result (self.new.at ≡ self.old.at) }
         ensures made { self.new.made ≡ self.old.made }
         ensures turns { self.new.turns ≡ self.old.turns }
@@ -152,6 +154,8 @@ impl History {
         ensures forward { self.old.at ≤ n → IsOk result × (self.new.made ≡ min (self.old.made + (self.new.at - self.old.at)) (2 ^ 64 - 1)) }
         // Going back makes no more turns than lie before the turn that it goes to.
         ensures most { self.new.made ≤ self.old.made + self.new.at }
+        // Nor than lie behind any copy before that turn.
+        ensures copies { IfOk result (λ at. at < self.old.at → MakesFewer self.old.kept.items at self.old.made self.new.made) }
     {
         let many = self.turns.len();
         let to = if n < many as u64 { n as usize } else { many };

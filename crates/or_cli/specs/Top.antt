@@ -8,14 +8,14 @@ use Rattle.or_command.specs.Lines.{usage_lines}
 use Rattle.or_command.specs.Said.{SaidLine}
 use Rattle.or_command.specs.Outcomes.{LeavesAll}
 use Rattle.or_command.specs.Answered.{Answers, AnswersBy, IsDecided, IsDecidedBy}
-use Rattle.or_recorded.specs.Replay.{replay_loads, RecordedVerdict, ReplayWrites}
-use Rattle.or_command_debug.specs.Debug.{debug_loads, DebugVerdict, DebugWrites}
+use Rattle.or_recorded.specs.Replay.{replay_loads, RecordedVerdict, ReplayWrites, ReplayLacks}
+use Rattle.or_command_debug.specs.Debug.{debug_loads, DebugVerdict, DebugWrites, DebugLacks}
 use Rattle.or_command_source.specs.Assembly.{asm_loads, asm_check, AsmWrites}
 use Rattle.or_command_source.specs.Listing.{dis_loads, dis_check, DisWrites, DisLacks}
 use Rattle.or_command_source.specs.Generation.{gen_loads, gen_check, GenWrites}
-use Rattle.or_command_back.specs.Back.{back_loads, BackVerdict, BackWrites}
-use Rattle.or_recorded.specs.Race.{race_loads, RaceVerdict, RaceWrites}
-use Rattle.or_command_prof.specs.Prof.{prof_loads, ProfVerdict, ProfWrites}
+use Rattle.or_command_back.specs.Back.{back_loads, BackVerdict, BackWrites, BackLacks}
+use Rattle.or_recorded.specs.Race.{race_loads, RaceVerdict, RaceWrites, RaceLacks}
+use Rattle.or_command_prof.specs.Prof.{prof_loads, ProfVerdict, ProfWrites, ProfLacks}
 use Rattle.or_command_run.specs.Run.{RunAnswers, RunDecided}
 use Rattle.or_command_hunt.specs.Hunt.{HuntAnswers, HuntDecided}
 use Rattle.or_command_run.specs.Bench.{bench_loads, bench_check, BenchWrites}
@@ -50,26 +50,26 @@ pub record IsUsage (words : List (List ℕ)) (old new : HostState) : Type 0 wher
 abbrev pub CommandEnds : Shown → ℕ → HostState → HostState → Type 0
 CommandEnds (run names options) status old new = RunAnswers names options status old new
 CommandEnds (hunt names options) status old new = HuntAnswers names options status old new
-CommandEnds (replay files report) status old new = AnswersBy (replay_loads files) (RecordedVerdict files) (ReplayWrites files report) LeavesAll status old new
+CommandEnds (replay files report) status old new = AnswersBy (replay_loads files) (RecordedVerdict files) (ReplayWrites files report) (ReplayLacks files) status old new
 CommandEnds (asm source image symbols) status old new = Answers (asm_loads source) (asm_check source) (AsmWrites image symbols) LeavesAll status old new
 CommandEnds (dis image) status old new = Answers (dis_loads image) (dis_check image) DisWrites (DisLacks image) status old new
-CommandEnds (debug files script) status old new = AnswersBy (debug_loads files script) (DebugVerdict files script) (DebugWrites files) LeavesAll status old new
+CommandEnds (debug files script) status old new = AnswersBy (debug_loads files script) (DebugVerdict files script) (DebugWrites files) (DebugLacks files script) status old new
 CommandEnds (gen workload source) status old new = Answers gen_loads gen_check (GenWrites workload source) LeavesAll status old new
 CommandEnds (bench workload schedule stay) status old new = Answers bench_loads (bench_check workload) (BenchWrites workload schedule) LeavesAll status old new
-CommandEnds (back files script every) status old new = AnswersBy (back_loads files script) (BackVerdict files script) (BackWrites files) LeavesAll status old new
-CommandEnds (race files options) status old new = AnswersBy (race_loads files) (RaceVerdict files options) (RaceWrites files options) LeavesAll status old new
-CommandEnds (prof files) status old new = AnswersBy (prof_loads files) (ProfVerdict files) (ProfWrites files) LeavesAll status old new
+CommandEnds (back files script every) status old new = AnswersBy (back_loads files script) (BackVerdict files script) (BackWrites files) (BackLacks files script) status old new
+CommandEnds (race files options) status old new = AnswersBy (race_loads files) (RaceVerdict files options) (RaceWrites files options) (RaceLacks files) status old new
+CommandEnds (prof files) status old new = AnswersBy (prof_loads files) (ProfVerdict files) (ProfWrites files) (ProfLacks files) status old new
 
 -- if no I/O error occurs, the file contents determine the status, unless memory runs out; of a run 15 may stand for 0 with --status
 abbrev pub IsComplete : Shown → ℕ → HostState → HostState → Type 0
 IsComplete (run names options) status old new = RunDecided names options status old new
 IsComplete (hunt names options) status old new = HuntDecided names options status old new
-IsComplete (replay files report) status old new = IsDecidedBy (replay_loads files) (RecordedVerdict files) (ReplayWrites files report) LeavesAll status old new
+IsComplete (replay files report) status old new = IsDecidedBy (replay_loads files) (RecordedVerdict files) (ReplayWrites files report) (ReplayLacks files) status old new
 IsComplete (asm source image symbols) status old new = IsDecided (asm_loads source) (asm_check source) (AsmWrites image symbols) LeavesAll status old new
 IsComplete (dis image) status old new = IsDecided (dis_loads image) (dis_check image) DisWrites (DisLacks image) status old new
-IsComplete (debug files script) status old new = IsDecidedBy (debug_loads files script) (DebugVerdict files script) (DebugWrites files) LeavesAll status old new
+IsComplete (debug files script) status old new = IsDecidedBy (debug_loads files script) (DebugVerdict files script) (DebugWrites files) (DebugLacks files script) status old new
 IsComplete (gen workload source) status old new = IsDecided gen_loads gen_check (GenWrites workload source) LeavesAll status old new
 IsComplete (bench workload schedule stay) status old new = IsDecided bench_loads (bench_check workload) (BenchWrites workload schedule) LeavesAll status old new
-IsComplete (back files script every) status old new = IsDecidedBy (back_loads files script) (BackVerdict files script) (BackWrites files) LeavesAll status old new
-IsComplete (race files options) status old new = IsDecidedBy (race_loads files) (RaceVerdict files options) (RaceWrites files options) LeavesAll status old new
-IsComplete (prof files) status old new = IsDecidedBy (prof_loads files) (ProfVerdict files) (ProfWrites files) LeavesAll status old new
+IsComplete (back files script every) status old new = IsDecidedBy (back_loads files script) (BackVerdict files script) (BackWrites files) (BackLacks files script) status old new
+IsComplete (race files options) status old new = IsDecidedBy (race_loads files) (RaceVerdict files options) (RaceWrites files options) (RaceLacks files) status old new
+IsComplete (prof files) status old new = IsDecidedBy (prof_loads files) (ProfVerdict files) (ProfWrites files) (ProfLacks files) status old new

@@ -6,18 +6,18 @@ ghost use Rattle.or_words.specs.Settings.{Fits};
 ghost use Rattle.or_command_line.specs.Names.{run_names, hunt_names, recorded_names, AreWritten, AreRecorded, IsReport};
 ghost use Rattle.or_command.specs.Outcomes.{LeavesAll};
 ghost use Rattle.or_command.specs.Answered.{Answers, AnswersBy, IsDecided, IsDecidedBy};
-ghost use Rattle.or_recorded.specs.Replay.{replay_loads, RecordedVerdict, ReplayWrites};
+ghost use Rattle.or_recorded.specs.Replay.{replay_loads, RecordedVerdict, ReplayWrites, ReplayLacks};
 ghost use Rattle.or_command_run.specs.Run.{RunAnswers, RunDecided};
 ghost use Rattle.or_command_hunt.specs.Hunt.{HuntAnswers, HuntDecided};
 ghost use Rattle.or_command_run.specs.Bench.{bench_loads, bench_check, BenchWrites};
 ghost use Rattle.or_command_line.specs.Words.{IsFileName};
 ghost use Rattle.or_command_line.specs.Workloads.{FitsWorkload};
-ghost use Rattle.or_command_debug.specs.Debug.{debug_loads, DebugVerdict, DebugWrites};
-ghost use Rattle.or_command_prof.specs.Prof.{prof_loads, ProfVerdict, ProfWrites};
-ghost use Rattle.or_recorded.specs.Race.{race_loads, RaceVerdict, RaceWrites};
+ghost use Rattle.or_command_debug.specs.Debug.{debug_loads, DebugVerdict, DebugWrites, DebugLacks};
+ghost use Rattle.or_command_prof.specs.Prof.{prof_loads, ProfVerdict, ProfWrites, ProfLacks};
+ghost use Rattle.or_recorded.specs.Race.{race_loads, RaceVerdict, RaceWrites, RaceLacks};
 ghost use Rattle.or_recorded.specs.Files.{names_of, AreNames, loads};
-ghost use Rattle.or_recorded.specs.Command.{Verdict, Writes};
-ghost use Rattle.or_command_back.specs.Back.{back_loads, BackVerdict, BackWrites};
+ghost use Rattle.or_recorded.specs.Command.{Verdict, Writes, CommandLacks};
+ghost use Rattle.or_command_back.specs.Back.{back_loads, BackVerdict, BackWrites, BackLacks};
 ghost use Rattle.or_command_line.specs.Settings.{FitsStay, FitsHunt, FitsEvery};
 ghost use Rattle.or_cli.specs.Top.{threaded_command, lone_command, IsUsage, CommandEnds, IsComplete};
 
@@ -102,9 +102,9 @@ fn recorded_command<C: RecordedCommand, H: Host>(
 ) -> u8
     requires names { AreNames (names_of names.now) }
     ensures ends { AnswersBy (loads (names_of names.now)) (Verdict (C.fault command.now) (C.Makes command.now) (names_of names.now))
-        (Writes (C.fault command.now) (C.Makes command.now) (names_of names.now)) LeavesAll result (H.state host.old) (H.state host.new) }
+        (Writes (C.fault command.now) (C.Makes command.now) (names_of names.now)) (CommandLacks (names_of names.now)) result (H.state host.old) (H.state host.new) }
     ensures complete { IsDecidedBy (loads (names_of names.now)) (Verdict (C.fault command.now) (C.Makes command.now) (names_of names.now))
-        (Writes (C.fault command.now) (C.Makes command.now) (names_of names.now)) LeavesAll result (H.state host.old) (H.state host.new) }
+        (Writes (C.fault command.now) (C.Makes command.now) (names_of names.now)) (CommandLacks (names_of names.now)) result (H.state host.old) (H.state host.new) }
     ensures command { result ≢ 2 }
 {
     let outcome = carry_out(alloc, names, command, host);
@@ -115,9 +115,9 @@ fn recorded_command<C: RecordedCommand, H: Host>(
 fn replay_command<H: Host>(alloc: Global, names: &Recorded<'_>, report: &str, host: &mut H) -> u8
     requires names { AreRecorded (recorded_names names.now) }
     requires report { IsReport (recorded_names names.now) report.now }
-    ensures ends { AnswersBy (replay_loads (recorded_names names.now)) (RecordedVerdict (recorded_names names.now)) (ReplayWrites (recorded_names names.now) report.now) LeavesAll
+    ensures ends { AnswersBy (replay_loads (recorded_names names.now)) (RecordedVerdict (recorded_names names.now)) (ReplayWrites (recorded_names names.now) report.now) (ReplayLacks (recorded_names names.now))
         result (H.state host.old) (H.state host.new) }
-    ensures complete { IsDecidedBy (replay_loads (recorded_names names.now)) (RecordedVerdict (recorded_names names.now)) (ReplayWrites (recorded_names names.now) report.now) LeavesAll
+    ensures complete { IsDecidedBy (replay_loads (recorded_names names.now)) (RecordedVerdict (recorded_names names.now)) (ReplayWrites (recorded_names names.now) report.now) (ReplayLacks (recorded_names names.now))
         result (H.state host.old) (H.state host.new) }
     ensures command { result ≢ 2 }
 {
@@ -129,9 +129,9 @@ fn replay_command<H: Host>(alloc: Global, names: &Recorded<'_>, report: &str, ho
 fn debug_command<H: Host>(alloc: Global, names: &Recorded<'_>, script: &str, host: &mut H) -> u8
     requires names { AreRecorded (recorded_names names.now) }
     requires script { IsFileName script.now }
-    ensures ends { AnswersBy (debug_loads (recorded_names names.now) script.now) (DebugVerdict (recorded_names names.now) script.now) (DebugWrites (recorded_names names.now)) LeavesAll
+    ensures ends { AnswersBy (debug_loads (recorded_names names.now) script.now) (DebugVerdict (recorded_names names.now) script.now) (DebugWrites (recorded_names names.now)) (DebugLacks (recorded_names names.now) script.now)
         result (H.state host.old) (H.state host.new) }
-    ensures complete { IsDecidedBy (debug_loads (recorded_names names.now) script.now) (DebugVerdict (recorded_names names.now) script.now) (DebugWrites (recorded_names names.now)) LeavesAll
+    ensures complete { IsDecidedBy (debug_loads (recorded_names names.now) script.now) (DebugVerdict (recorded_names names.now) script.now) (DebugWrites (recorded_names names.now)) (DebugLacks (recorded_names names.now) script.now)
         result (H.state host.old) (H.state host.new) }
     ensures command { result ≢ 2 }
 {
@@ -150,9 +150,9 @@ fn back_command<H: Host>(
     requires names { AreRecorded (recorded_names names.now) }
     requires script { IsFileName script.now }
     requires every { FitsEvery every }
-    ensures ends { AnswersBy (back_loads (recorded_names names.now) script.now) (BackVerdict (recorded_names names.now) script.now) (BackWrites (recorded_names names.now)) LeavesAll
+    ensures ends { AnswersBy (back_loads (recorded_names names.now) script.now) (BackVerdict (recorded_names names.now) script.now) (BackWrites (recorded_names names.now)) (BackLacks (recorded_names names.now) script.now)
         result (H.state host.old) (H.state host.new) }
-    ensures complete { IsDecidedBy (back_loads (recorded_names names.now) script.now) (BackVerdict (recorded_names names.now) script.now) (BackWrites (recorded_names names.now)) LeavesAll
+    ensures complete { IsDecidedBy (back_loads (recorded_names names.now) script.now) (BackVerdict (recorded_names names.now) script.now) (BackWrites (recorded_names names.now)) (BackLacks (recorded_names names.now) script.now)
         result (H.state host.old) (H.state host.new) }
     ensures command { result ≢ 2 }
 {
@@ -168,9 +168,9 @@ fn race_command<H: Host>(
     host: &mut H,
 ) -> u8
     requires names { AreRecorded (recorded_names names.now) }
-    ensures ends { AnswersBy (race_loads (recorded_names names.now)) (RaceVerdict (recorded_names names.now) options) (RaceWrites (recorded_names names.now) options) LeavesAll
+    ensures ends { AnswersBy (race_loads (recorded_names names.now)) (RaceVerdict (recorded_names names.now) options) (RaceWrites (recorded_names names.now) options) (RaceLacks (recorded_names names.now))
         result (H.state host.old) (H.state host.new) }
-    ensures complete { IsDecidedBy (race_loads (recorded_names names.now)) (RaceVerdict (recorded_names names.now) options) (RaceWrites (recorded_names names.now) options) LeavesAll
+    ensures complete { IsDecidedBy (race_loads (recorded_names names.now)) (RaceVerdict (recorded_names names.now) options) (RaceWrites (recorded_names names.now) options) (RaceLacks (recorded_names names.now))
         result (H.state host.old) (H.state host.new) }
     ensures command { result ≢ 2 }
 {
@@ -189,9 +189,9 @@ fn race_command<H: Host>(
 // Profiles a recorded run, and says how that ended.
 fn prof_command<H: Host>(alloc: Global, names: &Recorded<'_>, host: &mut H) -> u8
     requires names { AreRecorded (recorded_names names.now) }
-    ensures ends { AnswersBy (prof_loads (recorded_names names.now)) (ProfVerdict (recorded_names names.now)) (ProfWrites (recorded_names names.now)) LeavesAll
+    ensures ends { AnswersBy (prof_loads (recorded_names names.now)) (ProfVerdict (recorded_names names.now)) (ProfWrites (recorded_names names.now)) (ProfLacks (recorded_names names.now))
         result (H.state host.old) (H.state host.new) }
-    ensures complete { IsDecidedBy (prof_loads (recorded_names names.now)) (ProfVerdict (recorded_names names.now)) (ProfWrites (recorded_names names.now)) LeavesAll
+    ensures complete { IsDecidedBy (prof_loads (recorded_names names.now)) (ProfVerdict (recorded_names names.now)) (ProfWrites (recorded_names names.now)) (ProfLacks (recorded_names names.now))
         result (H.state host.old) (H.state host.new) }
     ensures command { result ≢ 2 }
 {

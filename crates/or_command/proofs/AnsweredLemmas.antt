@@ -27,12 +27,12 @@ module _ (loads : List Load) (Verdict : List (List ℕ) → Option FailedCheck �
   decided_by status a c answers = record {
     by_files = λ files told sound. elim (complete_by loads Verdict Writes Lacking answers.end a c files answers.runs.outcome told sound) [
       | inl e ↦ inl (record { end = answers.end; is_end = e; status_is = answers.status_is })
-      | inr e ↦ inr (answers.status_is ∙ ap status_of e)
+      | inr e ↦ inr (answers.status_is ∙ ap status_of e.0, e.1)
     ];
     by_long = λ long sound. elim (long_file_decides_by loads Verdict Writes Lacking answers.end a c long.front long.load long.rest long.before long.file
         answers.runs.outcome long.order long.told long.fit long.held long.over sound) [
           | inl e ↦ inl (answers.status_is ∙ ap status_of e)
-          | inr e ↦ inr (answers.status_is ∙ ap status_of e)
+          | inr e ↦ inr (answers.status_is ∙ ap status_of e.0, e.1)
         ];
   }
 
@@ -63,7 +63,7 @@ module _ (loads : List Load) (verdict : List (List ℕ) → Option FailedCheck) 
   decided status a c answers = record {
     by_files = λ files told sound. elim (complete loads verdict Writes Lacking answers.end a c files answers.runs.outcome told sound) [
       | inl e ↦ inl (answers.status_is ∙ ap status_of e)
-      | inr e ↦ inr (answers.status_is ∙ ap status_of e)
+      | inr e ↦ inr (answers.status_is ∙ ap status_of e.0, e.1)
     ];
     by_long = (decided_by loads (Computes verdict) Writes Lacking status a c answers).by_long;
   }

@@ -68,7 +68,7 @@ stops_rose outs console name a b (inr at) = at.1.cause.rose
 pub complete_by : (loads : List Load) (Verdict : List (List ℕ) → Option FailedCheck → Type 0) (Writes : List (List ℕ) → List File → List ℕ → Type 0)
     (Lacking : HostState → HostState → Type 0) (end : CommandEnd) (a b : HostState) (files : List (List ℕ))
     → OutcomeBy loads Verdict Writes Lacking end a b → AllTold loads files b → (Rose a.faults b.faults → ⊥)
-    → IsEndOf loads Verdict Writes Lacking files end ⊎ (end ≡ no_memory)
+    → IsEndOf loads Verdict Writes Lacking files end ⊎ ((end ≡ no_memory) × Lacking a b)
 complete_by loads Verdict Writes Lacking done a b files outcome told sound =
     let same : outcome.files ≡ files = same_read loads outcome.files files b outcome.read told in
     let fits : first_long loads files ≡ None = subst (λ (x : List (List ℕ)). first_long loads x ≡ None) same (none_long loads outcome.files b outcome.read) in
@@ -91,7 +91,7 @@ complete_by loads Verdict Writes Lacking (too_long name limit) a b files outcome
     inl (subst (λ (l : Option Load). EndsBy loads Verdict Writes Lacking l files (too_long name limit)) (sym first) is)
 complete_by loads Verdict Writes Lacking (unread name) a b files outcome told sound = absurd (sound outcome.stopped.cause.rose)
 complete_by loads Verdict Writes Lacking (unwritten name) a b files outcome told sound = absurd (sound (stops_rose outcome.outs outcome.console name a b outcome.stopped))
-complete_by loads Verdict Writes Lacking no_memory a b files outcome told sound = inr refl
+complete_by loads Verdict Writes Lacking no_memory a b files outcome told sound = inr (refl, outcome)
 
 -- a file that was read is within its limit
 long_not_read : (front : List Load) (load : Load) (rest : List Load) (files : List (List ℕ)) (file : List ℕ) (b : HostState)
@@ -137,7 +137,7 @@ pub long_file_decides_by : (loads : List Load) (Verdict : List (List ℕ) → Op
     (Lacking : HostState → HostState → Type 0) (end : CommandEnd) (a b : HostState) (front : List Load) (load : Load) (rest : List Load) (told : List (List ℕ)) (file : List ℕ)
     → OutcomeBy loads Verdict Writes Lacking end a b → loads ≡ front ++ load ∷ rest → AllTold front told b → AllFit front told
     → b.holds load.name ≡ Some (Some file) → load.limit < length file → (Rose a.faults b.faults → ⊥)
-    → (end ≡ too_long load.name load.limit) ⊎ (end ≡ no_memory)
+    → (end ≡ too_long load.name load.limit) ⊎ ((end ≡ no_memory) × Lacking a b)
 long_file_decides_by loads Verdict Writes Lacking done a b front load rest told file outcome order tells fits held over sound =
     absurd (long_not_read front load rest outcome.files file b (subst (λ (ls : List Load). AreRead ls outcome.files b) order outcome.read) held over)
 long_file_decides_by loads Verdict Writes Lacking (refused r) a b front load rest told file outcome order tells fits held over sound =
@@ -150,7 +150,7 @@ long_file_decides_by loads Verdict Writes Lacking (too_long name limit) a b fron
 long_file_decides_by loads Verdict Writes Lacking (unread name) a b front load rest told file outcome order tells fits held over sound = absurd (sound outcome.stopped.cause.rose)
 long_file_decides_by loads Verdict Writes Lacking (unwritten name) a b front load rest told file outcome order tells fits held over sound =
     absurd (sound (stops_rose outcome.outs outcome.console name a b outcome.stopped))
-long_file_decides_by loads Verdict Writes Lacking no_memory a b front load rest told file outcome order tells fits held over sound = inr refl
+long_file_decides_by loads Verdict Writes Lacking no_memory a b front load rest told file outcome order tells fits held over sound = inr (refl, outcome)
 
 computed_end : (loads : List Load) (verdict : List (List ℕ) → Option FailedCheck) (Writes : List (List ℕ) → List File → List ℕ → Type 0)
     (Lacking : HostState → HostState → Type 0) (long : Option Load) (files : List (List ℕ)) (end : CommandEnd)
@@ -162,7 +162,7 @@ computed_end loads verdict Writes Lacking None files end is = is.is_end ∙ ap (
 module _ (loads : List Load) (verdict : List (List ℕ) → Option FailedCheck) (Writes : List (List ℕ) → List File → List ℕ → Type 0)
     (Lacking : HostState → HostState → Type 0) where
   pub complete : (end : CommandEnd) (a b : HostState) (files : List (List ℕ)) → CommandOutcome loads verdict Writes Lacking end a b → AllTold loads files b
-      → (Rose a.faults b.faults → ⊥) → (end ≡ end_of_files loads verdict Writes Lacking files) ⊎ (end ≡ no_memory)
+      → (Rose a.faults b.faults → ⊥) → (end ≡ end_of_files loads verdict Writes Lacking files) ⊎ ((end ≡ no_memory) × Lacking a b)
   complete end a b files outcome told sound = elim (complete_by loads (Computes verdict) Writes Lacking end a b files outcome told sound) [
     | inl e ↦ inl (computed_end loads verdict Writes Lacking (first_long loads files) files end e)
     | inr e ↦ inr e
@@ -171,6 +171,6 @@ module _ (loads : List Load) (verdict : List (List ℕ) → Option FailedCheck) 
   pub long_file_decides : (end : CommandEnd) (a b : HostState) (front : List Load) (load : Load) (rest : List Load) (told : List (List ℕ)) (file : List ℕ)
       → CommandOutcome loads verdict Writes Lacking end a b → loads ≡ front ++ load ∷ rest → AllTold front told b → AllFit front told
       → b.holds load.name ≡ Some (Some file) → load.limit < length file → (Rose a.faults b.faults → ⊥)
-      → (end ≡ too_long load.name load.limit) ⊎ (end ≡ no_memory)
+      → (end ≡ too_long load.name load.limit) ⊎ ((end ≡ no_memory) × Lacking a b)
   long_file_decides end a b front load rest told file outcome order tells fits held over sound =
       long_file_decides_by loads (Computes verdict) Writes Lacking end a b front load rest told file outcome order tells fits held over sound

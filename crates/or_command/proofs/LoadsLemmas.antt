@@ -12,7 +12,7 @@ pub none_loaded : (held : List (List ℕ)) (a : HostState) → LoadsAll [] held 
 none_loaded held a = record {
   files = [];
   stands = sym (append-nil held);
-  all = record { read = tt; untouched = untouched_refl a; no_fault = no_fault_refl a };
+  all = record { read = tt; untouched = untouched_refl a; no_fault = no_fault_refl a; lacks = refl };
 }
 
 -- one file is pushed behind others, and further ones behind it
@@ -34,6 +34,7 @@ first_loaded load loads file held mid kept a b c one pushed later = record {
     read = read_then load loads file later.files a b c one later.all.untouched later.all.read;
     untouched = untouched_then a b c one.untouched later.all.untouched;
     no_fault = no_fault_then a b c one.no_fault later.all.no_fault;
+    lacks = later.all.lacks ∙ one.lacks;
   };
 }
 
@@ -64,9 +65,11 @@ stops_first load loads (TooLong name limit) a b one = record {
 }
 stops_first load loads NoMemory a b one = record {
   front = [];
-  rest = load ∷ loads;
+  load = load;
+  rest = loads;
   order = refl;
   read = tt;
+  lacked = one.2;
   untouched = one.0;
   no_fault = one.1;
 }
@@ -74,15 +77,6 @@ stops_first load loads NoMemory a b one = record {
 pub first_stops : (load : Load) (loads : List Load) (stop : LoadStop) (held : List (List ℕ)) (a b : HostState) → OneStops load stop a b
     → LoadsSome (load ∷ loads) stop held held a b
 first_stops load loads stop held a b one = record { files = []; stands = sym (append-nil held); stops = stops_first load loads stop a b one }
-
--- a file was read, and found no place behind the others
-pub first_lost : (load : Load) (loads : List Load) (file : List ℕ) (held : List (List ℕ)) (a b : HostState) → OneRead load file a b
-    → LoadsSome (load ∷ loads) NoMemory held held a b
-first_lost load loads file held a b one = record {
-  files = [];
-  stands = sym (append-nil held);
-  stops = record { front = []; rest = load ∷ loads; order = refl; read = tt; untouched = one.untouched; no_fault = one.no_fault };
-}
 
 stops_later : (load : Load) (loads : List Load) (file : List ℕ) (files : List (List ℕ)) (stop : LoadStop) (a b c : HostState)
     → OneRead load file a b → StopsLoading loads stop files b c → StopsLoading (load ∷ loads) stop (file ∷ files) a c
@@ -112,9 +106,11 @@ stops_later load loads file files (TooLong name limit) a b c one later = record 
 }
 stops_later load loads file files NoMemory a b c one later = record {
   front = load ∷ later.front;
+  load = later.load;
   rest = later.rest;
   order = ap (λ (ls : List Load). load ∷ ls) later.order;
   read = read_then load later.front file files a b c one later.untouched later.read;
+  lacked = rose_after a.lacks b.lacks c.lacks (sym one.lacks) later.lacked;
   untouched = untouched_then a b c one.untouched later.untouched;
   no_fault = no_fault_then a b c one.no_fault later.no_fault;
 }

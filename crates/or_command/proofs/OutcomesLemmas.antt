@@ -1,5 +1,5 @@
 -- From the parts of a command to its outcome, and from its outcome to what the files come to by themselves.
-use Rattle.std.proofs.Common.{◌≡◌, ◌∙◌, sym, subst, ℕ, List, [], ◌∷◌, ◌++◌, Option, Some, None, inl, inr}
+use Rattle.std.proofs.Common.{◌≡◌, ◌∙◌, sym, subst, ℕ, List, [], ◌∷◌, ◌++◌, Option, Some, None, inl, inr, ◌⊎◌}
 use Rattle.or_host.specs.Bytes.{Adds, AddsPrefix}
 use Rattle.or_host.specs.Told.{TellsSame, IsPrefixOfFile}
 use Rattle.or_host.specs.Counts.{Rose}
@@ -14,7 +14,7 @@ use Rattle.or_command.specs.Writes.{File, AllHold, IsOther, AllWritten, WriteSto
 use Rattle.or_command.specs.Loads.{Load, AreRead, AllRead, StopsLoading}
 use Rattle.or_command.specs.Said.{OnlySays, SaidLine}
 use Rattle.or_command.specs.Ends.{FailedCheck, CommandEnd, done, unread, too_long, refused, unwritten, no_memory, lines_of}
-use Rattle.or_command.specs.Outcomes.{LeavesAll, AreApart, OutcomeBy, RunsBy, Computes, CommandOutcome, CommandRuns}
+use Rattle.or_command.specs.Outcomes.{LeavesAll, HavePassed, LacksMemory, AreApart, OutcomeBy, RunsBy, Computes, CommandOutcome, CommandRuns}
 use Rattle.or_command.proofs.TellsLemmas.{same_then, told_then, same_then_step, step_then_same, same_then_part, part_then_same, rose_after, untouched_then, no_fault_then}
 use Rattle.or_command.proofs.SaysLemmas.{line_after_silence}
 
@@ -87,10 +87,10 @@ end_of_stop NoMemory = no_memory
 -- a command that stops at its loads
 pub stop_by : (loads : List Load) (Verdict : List (List ℕ) → Option FailedCheck → Type 0) (Writes : List (List ℕ) → List File → List ℕ → Type 0)
     (Lacking : HostState → HostState → Type 0) (stop : LoadStop) (before : List (List ℕ)) (a b : HostState)
-    → (LeavesAll a b → Lacking a b) → StopsLoading loads stop before a b → OutcomeBy loads Verdict Writes Lacking (end_of_stop stop) a b
+    → (LeavesAll a b → Rose a.lacks b.lacks → Lacking a b) → StopsLoading loads stop before a b → OutcomeBy loads Verdict Writes Lacking (end_of_stop stop) a b
 stop_by loads Verdict Writes Lacking (Unread name) before a b lacking stops = record { before = before; stopped = stops }
 stop_by loads Verdict Writes Lacking (TooLong name limit) before a b lacking stops = record { before = before; stopped = stops }
-stop_by loads Verdict Writes Lacking NoMemory before a b lacking stops = lacking (record { untouched = stops.untouched; no_fault = stops.no_fault })
+stop_by loads Verdict Writes Lacking NoMemory before a b lacking stops = lacking (record { untouched = stops.untouched; no_fault = stops.no_fault }) stops.lacked
 
 -- a command that refuses what it loaded
 pub refusal_by : (loads : List Load) (Verdict : List (List ℕ) → Option FailedCheck → Type 0) (Writes : List (List ℕ) → List File → List ℕ → Type 0)
@@ -149,6 +149,22 @@ said_fault deed name a b c ab bc = record {
 -- nothing of what a command leaves alone is touched by what is said
 pub said_leaves_all : (a b c : HostState) → LeavesAll a b → OnlySays b c → LeavesAll a c
 said_leaves_all a b c ab bc = record { untouched = said_untouched a b c ab.untouched bc; no_fault = said_no_fault a b c ab.no_fault bc }
+
+passed_then : (loads : List Load) (Passed : List (List ℕ) → Type 0) (a b c : HostState) → OnlySays b c → Rose a.lacks b.lacks ⊎ HavePassed loads Passed b
+    → Rose a.lacks c.lacks ⊎ HavePassed loads Passed c
+passed_then loads Passed a b c only (inl rose) = inl (subst (λ (n : ℕ). Rose a.lacks n) (sym only.lacks) rose)
+passed_then loads Passed a b c only (inr have) =
+    inr (record { files = have.files; read = read_stays loads have.files b c only.names have.read; passed = have.passed })
+
+-- nor is what it leaves where memory ran out
+pub said_lacks : (loads : List Load) (Passed : List (List ℕ) → Type 0) (a b c : HostState) → LacksMemory loads Passed a b → OnlySays b c
+    → LacksMemory loads Passed a c
+said_lacks loads Passed a b c lacks only =
+    record { left = said_leaves_all a b c lacks.left only; cause = passed_then loads Passed a b c only lacks.cause }
+
+-- a load that found no memory
+pub load_lacks : (loads : List Load) (Passed : List (List ℕ) → Type 0) (a b : HostState) → LeavesAll a b → Rose a.lacks b.lacks → LacksMemory loads Passed a b
+load_lacks loads Passed a b left rose = record { left = left; cause = inl rose }
 
 said_hold : (files : List File) (b c : HostState) → OnlySays b c → AllHold b files → AllHold c files
 said_hold [] b c only whole = tt
@@ -259,7 +275,7 @@ concluded_by loads Verdict Writes Lacking end a b c lacking outcome silent line 
 -- the same of a command whose verdict is a function of its files
 module _ (loads : List Load) (verdict : List (List ℕ) → Option FailedCheck) (Writes : List (List ℕ) → List File → List ℕ → Type 0) where
   pub stop_outcome : (Lacking : HostState → HostState → Type 0) (stop : LoadStop) (before : List (List ℕ)) (a b : HostState)
-      → (LeavesAll a b → Lacking a b) → StopsLoading loads stop before a b → CommandOutcome loads verdict Writes Lacking (end_of_stop stop) a b
+      → (LeavesAll a b → Rose a.lacks b.lacks → Lacking a b) → StopsLoading loads stop before a b → CommandOutcome loads verdict Writes Lacking (end_of_stop stop) a b
   stop_outcome Lacking stop before a b lacking stops = stop_by loads (Computes verdict) Writes Lacking stop before a b lacking stops
 
   pub refusal_outcome : (Lacking : HostState → HostState → Type 0) (files : List (List ℕ)) (fault : FailedCheck) (a b : HostState)

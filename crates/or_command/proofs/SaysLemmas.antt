@@ -14,7 +14,7 @@ use Rattle.or_command.proofs.TellsLemmas.{same_refl, same_then, same_then_step, 
 pub said_none : {U E : Type 0} (u : U) (s : HostState) → Said {U = U} {E = E} (Ok u) [] s s
 said_none u s = record {
   says = (adds_none s.said s.said (same_refl s.said), refl);
-  only = record { names = λ name. same_refl (s.holds name); written = same_refl s.written; faults = refl; blame = refl };
+  only = record { names = λ name. same_refl (s.holds name); written = same_refl s.written; faults = refl; lacks = refl; blame = refl };
 }
 
 -- the same line in another form
@@ -47,6 +47,7 @@ only_then a b c ab bc = record {
   names = λ name. same_then (a.holds name) (b.holds name) (c.holds name) (ab.names name) (bc.names name);
   written = same_then a.written b.written c.written ab.written bc.written;
   faults = bc.faults ∙ ab.faults;
+  lacks = bc.lacks ∙ ab.lacks;
   blame = bc.blame ∙ ab.blame;
 }
 

@@ -1,5 +1,5 @@
 -- How a command ends that goes on with the files that it has loaded.
-use Rattle.std.specs.Prelude.{◌≡◌, ℕ, List, Option, Some, None}
+use Rattle.std.specs.Prelude.{◌≡◌, ℕ, List, Option, Some, None, ⊤}
 use Rattle.or_host.specs.HostState.{HostState}
 use Rattle.or_command.specs.Writes.{File, AllWritten, WriteStopped}
 use Rattle.or_command.specs.Ends.{FailedCheck, CommandEnd, done, unread, too_long, refused, unwritten, no_memory}
@@ -17,6 +17,15 @@ WriteEnds files console no_memory old new = ⊥
 abbrev pub end_of_check : Option FailedCheck → CommandEnd
 end_of_check None = no_memory
 end_of_check (Some check) = refused check
+
+-- this holds where memory ran out
+abbrev pub IfNoMemory : CommandEnd → Type 0 → Type 0
+IfNoMemory no_memory Fact = Fact
+IfNoMemory done Fact = ⊤
+IfNoMemory (unread name) Fact = ⊤
+IfNoMemory (too_long name limit) Fact = ⊤
+IfNoMemory (refused fault) Fact = ⊤
+IfNoMemory (unwritten name) Fact = ⊤
 
 -- a command as in Outcomes, by its verdict and by what it writes
 module _ (Verdict : List (List ℕ) → Option FailedCheck → Type 0) (Writes : List (List ℕ) → List File → List ℕ → Type 0) where

@@ -3,6 +3,7 @@ use Rattle.std.specs.Prelude.{◌≡◌, ◌≤◌, ◌+◌, ℕ, List, [], ◌�
 use Rattle.std.specs.declared.alloc.Global.{Global}
 use Rattle.or_host.specs.declared.host.Deed.TheVariants.{Load as Loading}
 use Rattle.or_host.specs.Told.{IsPrefixOfFile}
+use Rattle.or_host.specs.Counts.{Rose}
 use Rattle.or_host.specs.HostState.{HostState}
 use Rattle.or_host.specs.Calls.{IsName}
 use Rattle.or_command.specs.declared.loading.Input.{Input}
@@ -44,6 +45,7 @@ pub record OneRead (load : Load) (file : List ℕ) (old new : HostState) : Type 
   pub fits : length file ≤ load.limit
   pub untouched : Untouched old new
   pub no_fault : NoFault old new
+  pub lacks : new.lacks ≡ old.lacks
 
 -- one file is too long: a prefix of `limit + 1` bytes was taken
 pub record OneTooLong (load : Load) (old new : HostState) : Type 0 where
@@ -57,13 +59,14 @@ pub record OneTooLong (load : Load) (old new : HostState) : Type 0 where
 abbrev pub OneStops : Load → LoadStop → HostState → HostState → Type 0
 OneStops load (Unread name) old new = (name.now ≡ load.name) × FaultOf Loading load.name old new × Untouched old new
 OneStops load (TooLong name limit) old new = (name.now ≡ load.name) × (limit ≡ load.limit) × OneTooLong load old new
-OneStops load NoMemory old new = Untouched old new × NoFault old new
+OneStops load NoMemory old new = Untouched old new × NoFault old new × Rose old.lacks new.lacks
 
 -- all files are read
 pub record AllRead (loads : List Load) (files : List (List ℕ)) (old new : HostState) : Type 0 where
   pub read : AreRead loads files new
   pub untouched : Untouched old new
   pub no_fault : NoFault old new
+  pub lacks : new.lacks ≡ old.lacks
 
 -- a file of this name is not read; those before it are
 pub record StopsUnread (loads : List Load) (name : List ℕ) (before : List (List ℕ)) (old new : HostState) : Type 0 where
@@ -91,12 +94,14 @@ pub record StopsTooLong (loads : List Load) (name : List ℕ) (limit : ℕ) (bef
   pub untouched : Untouched old new
   pub no_fault : NoFault old new
 
--- memory ran out behind some files, which are read
+-- the load of a file found no memory, which the host has counted; those before it are read
 pub record StopsForMemory (loads : List Load) (before : List (List ℕ)) (old new : HostState) : Type 0 where
   pub front : List Load
+  pub load : Load
   pub rest : List Load
-  pub order : loads ≡ front ++ rest
+  pub order : loads ≡ front ++ load ∷ rest
   pub read : AreRead front before new
+  pub lacked : Rose old.lacks new.lacks
   pub untouched : Untouched old new
   pub no_fault : NoFault old new
 

@@ -1,5 +1,6 @@
 -- Any command that loads files, checks them, and then writes.
-use Rattle.std.specs.Prelude.{◌≡◌, ℕ, List, [], ◌∷◌, length, nat_lt, if◌then◌else◌, Option, Some, None, ⊤}
+use Rattle.std.specs.Prelude.{◌≡◌, ◌⊎◌, ℕ, List, [], ◌∷◌, length, nat_lt, if◌then◌else◌, Option, Some, None, ⊤}
+use Rattle.or_host.specs.Counts.{Rose}
 use Rattle.or_host.specs.HostState.{HostState}
 use Rattle.or_command.specs.Leaves.{Untouched, NoFault}
 use Rattle.or_command.specs.Writes.{File, IsOther, AllWritten, WriteStopped}
@@ -11,6 +12,18 @@ use Rattle.or_command.specs.Ends.{FailedCheck, CommandEnd, done, unread, too_lon
 pub record LeavesAll (old new : HostState) : Type 0 where
   pub untouched : Untouched old new
   pub no_fault : NoFault old new
+
+-- the files are read, and the checks that were made of them pass
+pub record HavePassed (loads : List Load) (Passed : List (List ℕ) → Type 0) (new : HostState) : Type 0 where
+  pub files : List (List ℕ)
+  pub read : AreRead loads files new
+  pub passed : Passed files
+
+-- Memory ran out, and nothing is written or created: a load found none, which the host has counted, or all files are read and
+-- the checks that were made before pass.
+pub record LacksMemory (loads : List Load) (Passed : List (List ℕ) → Type 0) (old new : HostState) : Type 0 where
+  pub left : LeavesAll old new
+  pub cause : Rose old.lacks new.lacks ⊎ HavePassed loads Passed new
 
 -- no file that is loaded is one of those that are written
 abbrev pub AreApart : List Load → List File → Type 0

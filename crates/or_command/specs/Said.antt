@@ -10,6 +10,7 @@ pub record OnlySays (old new : HostState) : Type 0 where
   pub names : (name : List ℕ) → TellsSame (old.holds name) (new.holds name)
   pub written : TellsSame old.written new.written
   pub faults : new.faults ≡ old.faults
+  pub lacks : new.lacks ≡ old.lacks
   pub blame : new.blame ≡ old.blame
 
 -- the pieces of a line were said, or, where say's count rose, a prefix of them

@@ -9,7 +9,7 @@ mod saying;
 mod writing;
 
 pub use ending::{conclude, say_tries, say_usage};
-pub use loading::{Input, LoadStop, load_files};
+pub use loading::{Input, LoadStop, Loaded, load_files};
 pub use outcome::Outcome;
 pub use refusal::{Digests, Refusal, ScheduleDetail};
 pub use writing::{Output, write_files, write_outputs};

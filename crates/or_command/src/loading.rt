@@ -1,11 +1,16 @@
 // Loads files in order.
-ghost use Rattle.std.specs.Prelude.{MatchResult};
+ghost use Rattle.std.specs.Prelude.{◌≤◌, ◌+◌, length, MatchResult};
+ghost use Rattle.arrayvec.specs.ArrayVec.{array_vec_len};
 ghost use Rattle.or_host.specs.Calls.{IsName};
 ghost use Rattle.or_command.specs.Leaves.{Silent};
 ghost use Rattle.or_command.specs.Loads.{load_of, loads_of, AreLoads, bytes_of, OneRead, OneStops, LoadsAll, LoadsSome};
 
+use arrayvec::ArrayVec;
 use or_host::{Host, LoadFail};
 use std::alloc::Global;
+
+/// The bytes of the files that a command has loaded, at most four. The list itself takes no memory.
+pub type Loaded = ArrayVec<Vec<u8>, 4, Global>;
 
 /// A file that a command loads: its name, and how many bytes it may hold.
 #[derive(Clone, Copy)]
@@ -21,20 +26,22 @@ pub enum LoadStop<'a> {
     Unread(&'a str),
     /// It holds more bytes than this limit.
     TooLong(&'a str, usize),
-    /// Memory ran out.
+    /// Its load found no memory.
     NoMemory,
 }
 
 /// Loads files in order, behind those that are there.
 ///
-/// It stops at the first file that is not read or too long, and touches none behind it. The files read before stay.
+/// It stops at the first file that is not read or too long, and touches none behind it. The files read before stay. It takes
+/// memory in the host's loads alone.
 pub fn load_files<'a, H: Host>(
     alloc: Global,
     host: &mut H,
     inputs: &[Input<'a>],
-    into: &mut Vec<Vec<u8>>,
+    into: &mut Loaded,
 ) -> Result<(), LoadStop<'a>>
-    requires { AreLoads (loads_of inputs.now) }
+    requires names { AreLoads (loads_of inputs.now) }
+    requires room { array_vec_len into.old + length inputs.now ≤ 4 }
     ensures files { MatchResult result
         (λ _. LoadsAll (loads_of inputs.now) (bytes_of into.old.items) (bytes_of into.new.items) (H.state host.old) (H.state host.new))
         (λ stop. LoadsSome (loads_of inputs.now) stop (bytes_of into.old.items) (bytes_of into.new.items) (H.state host.old) (H.state host.new)) }
@@ -47,9 +54,7 @@ pub fn load_files<'a, H: Host>(
         Ok(file) => file,
         Err(stop) => return Err(stop),
     };
-    if into.push(file).is_err() {
-        return Err(LoadStop::NoMemory);
-    }
+    into.push(file);
     match load_files(alloc, host, others, into) {
         Ok(()) => Ok(()),
         Err(stop) => Err(stop),

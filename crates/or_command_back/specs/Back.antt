@@ -6,6 +6,8 @@ use Rattle.or_sched.specs.declared.recording.Mark.{Mark}
 use Rattle.or_command.specs.Loads.{Load}
 use Rattle.or_command.specs.Writes.{File}
 use Rattle.or_command.specs.Ends.{FailedCheck}
+use Rattle.or_command.specs.Outcomes.{LacksMemory}
+use Rattle.or_host.specs.HostState.{HostState}
 use Rattle.or_command_line.specs.Names.{Recorded}
 use Rattle.or_command_image.specs.Loaded.{RecordedBytes}
 use Rattle.or_replay.specs.Start.{start}
@@ -14,12 +16,16 @@ use Rattle.or_script.specs.declared.fault.ScriptFault.TheVariants.{BadCommand, O
 use Rattle.or_back.specs.Script.{back_script_of, back_fault_of}
 use Rattle.or_back.specs.Session.{back_session_text}
 use Rattle.or_recorded.specs.Checked.{IsChecked}
-use Rattle.or_recorded.specs.Replay.{bytes_in, IsRefused}
+use Rattle.or_recorded.specs.Replay.{bytes_in, FilesRunShort, IsRefused}
 use Rattle.or_recorded.specs.Refused.{script_check}
 use Rattle.or_command_debug.specs.Debug.{debug_loads, script_bytes}
 
 abbrev pub back_loads : Recorded → List ℕ → List Load
 back_loads names script = debug_loads names script
+
+-- what it leaves where memory ran out
+abbrev pub BackLacks : Recorded → List ℕ → HostState → HostState → Type 0
+BackLacks names script = LacksMemory (back_loads names script) (FilesRunShort names)
 
 -- the checks of the recorded run pass, and the script has this fault, or none, for the recorded settings
 pub record HasBackFault (bytes : RecordedBytes) (script : List ℕ) (fault : Option ScriptFault) : Type 0 where

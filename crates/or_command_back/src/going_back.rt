@@ -5,19 +5,19 @@ ghost use Rattle.or_host.specs.Calls.{IsName};
 ghost use Rattle.or_words.specs.Settings.{Fits};
 ghost use Rattle.or_command.specs.Leaves.{Silent};
 ghost use Rattle.or_command.specs.Ends.{end_of};
-ghost use Rattle.or_command.specs.Finishing.{GoesOn};
-ghost use Rattle.or_command.specs.Outcomes.{OutcomeBy, LeavesAll};
+ghost use Rattle.or_command.specs.Finishing.{GoesOn, IfNoMemory};
+ghost use Rattle.or_command.specs.Outcomes.{OutcomeBy};
 ghost use Rattle.or_command.specs.Loads.{bytes_of};
 ghost use Rattle.or_command_line.specs.Names.{recorded_names, AreRecorded};
 ghost use Rattle.or_command_image.specs.Loaded.{RecordedBytes};
 ghost use Rattle.or_recorded.specs.Checked.{IsChecked};
-ghost use Rattle.or_recorded.specs.Replay.{bytes_in};
+ghost use Rattle.or_recorded.specs.Replay.{bytes_in, FilesRunShort};
 ghost use Rattle.or_command_line.specs.Settings.{FitsEvery};
 ghost use Rattle.or_command_debug.specs.Debug.{script_bytes};
-ghost use Rattle.or_command_back.specs.Back.{back_loads, BackVerdict, BackWrites, IsBackText};
+ghost use Rattle.or_command_back.specs.Back.{back_loads, BackVerdict, BackWrites, BackLacks, IsBackText};
 
 use or_back::{History, ScriptFault, session};
-use or_command::{LoadStop, Outcome};
+use or_command::{LoadStop, Loaded, Outcome};
 use or_command_debug::{load_debugged, script_in};
 use or_command_image::recorded_in;
 use or_command_line::Recorded;
@@ -71,6 +71,7 @@ fn finish<'a, H: Host>(
     requires every { FitsEvery every }
     requires script_limit { length (script_bytes (recorded_names names.now).input (bytes_of files.now)) ≤ 1048576 }
     ensures outcome { GoesOn (BackVerdict (recorded_names names.now) script.now) (BackWrites (recorded_names names.now)) (bytes_of files.now) (end_of result) (H.state host.old) (H.state host.new) }
+    ensures passed { IfNoMemory (end_of result) (FilesRunShort (recorded_names names.now) (bytes_of files.now)) }
     ensures silent { Silent (H.state host.old) (H.state host.new) }
 {
     let read = recorded_in(names.input, files);
@@ -100,11 +101,11 @@ pub fn back<'a, H: Host>(
     requires names { AreRecorded (recorded_names names.now) }
     requires script { IsName script.now }
     requires every { FitsEvery every }
-    ensures outcome { OutcomeBy (back_loads (recorded_names names.now) script.now) (BackVerdict (recorded_names names.now) script.now) (BackWrites (recorded_names names.now)) LeavesAll
+    ensures outcome { OutcomeBy (back_loads (recorded_names names.now) script.now) (BackVerdict (recorded_names names.now) script.now) (BackWrites (recorded_names names.now)) (BackLacks (recorded_names names.now) script.now)
         (end_of result) (H.state host.old) (H.state host.new) }
     ensures silent { Silent (H.state host.old) (H.state host.new) }
 {
-    let mut files = Vec::new(alloc);
+    let mut files = Loaded::new_in(alloc);
     match load_debugged(alloc, host, names, script, &mut files) {
         Ok(()) => finish(alloc, names, script, every, files.as_slice(), host),
         Err(LoadStop::Unread(name)) => Outcome::Unread(name),

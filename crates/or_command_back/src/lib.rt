@@ -2,5 +2,6 @@
 #![tactic(auto)]
 
 mod going_back;
+pub mod laws;
 
 pub use going_back::back;

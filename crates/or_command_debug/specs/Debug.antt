@@ -6,6 +6,8 @@ use Rattle.or_sched.specs.declared.recording.Mark.{Mark}
 use Rattle.or_command.specs.Loads.{Load}
 use Rattle.or_command.specs.Writes.{File}
 use Rattle.or_command.specs.Ends.{FailedCheck}
+use Rattle.or_command.specs.Outcomes.{LacksMemory}
+use Rattle.or_host.specs.HostState.{HostState}
 use Rattle.or_words.specs.declared.limits.TheConstants.{SCRIPT_LIMIT}
 use Rattle.or_command_line.specs.Names.{Recorded}
 use Rattle.or_command_image.specs.Loaded.{RecordedBytes, is_no_input, file_at}
@@ -15,11 +17,15 @@ use Rattle.or_script.specs.declared.fault.ScriptFault.TheVariants.{BadCommand, O
 use Rattle.or_script.specs.Script.{script_of, fault_of}
 use Rattle.or_debug.specs.Session.{session_text}
 use Rattle.or_recorded.specs.Checked.{IsChecked}
-use Rattle.or_recorded.specs.Replay.{replay_loads, bytes_in, IsRefused}
+use Rattle.or_recorded.specs.Replay.{replay_loads, bytes_in, FilesRunShort, IsRefused}
 use Rattle.or_recorded.specs.Refused.{script_check}
 
 abbrev pub debug_loads : Recorded → List ℕ → List Load
 debug_loads names script = replay_loads names ++ record { name = script; limit = SCRIPT_LIMIT } ∷ []
+
+-- what it leaves where memory ran out
+abbrev pub DebugLacks : Recorded → List ℕ → HostState → HostState → Type 0
+DebugLacks names script = LacksMemory (debug_loads names script) (FilesRunShort names)
 
 -- the script's bytes among those that were loaded, by the input's name: they are the last
 abbrev pub script_bytes : List ℕ → List (List ℕ) → List ℕ

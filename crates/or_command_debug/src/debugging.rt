@@ -6,17 +6,17 @@ ghost use Rattle.or_host.specs.Calls.{IsName};
 ghost use Rattle.or_words.specs.Settings.{Fits};
 ghost use Rattle.or_command.specs.Leaves.{Silent};
 ghost use Rattle.or_command.specs.Ends.{end_of};
-ghost use Rattle.or_command.specs.Finishing.{GoesOn};
-ghost use Rattle.or_command.specs.Outcomes.{OutcomeBy, LeavesAll};
+ghost use Rattle.or_command.specs.Finishing.{GoesOn, IfNoMemory};
+ghost use Rattle.or_command.specs.Outcomes.{OutcomeBy};
 ghost use Rattle.or_command.specs.Loads.{bytes_of};
 ghost use Rattle.or_command_line.specs.Names.{recorded_names, AreRecorded};
 ghost use Rattle.or_command_image.specs.Loaded.{RecordedBytes};
 ghost use Rattle.or_recorded.specs.Checked.{IsChecked};
-ghost use Rattle.or_recorded.specs.Replay.{bytes_in};
-ghost use Rattle.or_command_debug.specs.Debug.{debug_loads, script_bytes, DebugVerdict, DebugWrites, IsText};
+ghost use Rattle.or_recorded.specs.Replay.{bytes_in, FilesRunShort};
+ghost use Rattle.or_command_debug.specs.Debug.{debug_loads, script_bytes, DebugVerdict, DebugWrites, DebugLacks, IsText};
 
 use crate::scripts::{load_debugged, script_in};
-use or_command::{LoadStop, Outcome};
+use or_command::{LoadStop, Loaded, Outcome};
 use or_command_image::recorded_in;
 use or_command_line::Recorded;
 use or_debug::{ScriptFault, session};
@@ -62,6 +62,7 @@ fn finish<'a, H: Host>(
     requires limit { length (bytes_in (recorded_names names.now) (bytes_of files.now)).image ≤ IMAGE_LIMIT }
     requires script_limit { length (script_bytes (recorded_names names.now).input (bytes_of files.now)) ≤ SCRIPT_LIMIT }
     ensures outcome { GoesOn (DebugVerdict (recorded_names names.now) script.now) (DebugWrites (recorded_names names.now)) (bytes_of files.now) (end_of result) (H.state host.old) (H.state host.new) }
+    ensures passed { IfNoMemory (end_of result) (FilesRunShort (recorded_names names.now) (bytes_of files.now)) }
     ensures silent { Silent (H.state host.old) (H.state host.new) }
 {
     let read = recorded_in(names.input, files);
@@ -88,11 +89,11 @@ pub fn debug<'a, H: Host>(
 ) -> Outcome<'a>
     requires names { AreRecorded (recorded_names names.now) }
     requires script { IsName script.now }
-    ensures outcome { OutcomeBy (debug_loads (recorded_names names.now) script.now) (DebugVerdict (recorded_names names.now) script.now) (DebugWrites (recorded_names names.now)) LeavesAll
+    ensures outcome { OutcomeBy (debug_loads (recorded_names names.now) script.now) (DebugVerdict (recorded_names names.now) script.now) (DebugWrites (recorded_names names.now)) (DebugLacks (recorded_names names.now) script.now)
         (end_of result) (H.state host.old) (H.state host.new) }
     ensures silent { Silent (H.state host.old) (H.state host.new) }
 {
-    let mut files = Vec::new(alloc);
+    let mut files = Loaded::new_in(alloc);
     match load_debugged(alloc, host, names, script, &mut files) {
         Ok(()) => finish(alloc, names, script, files.as_slice(), host),
         Err(LoadStop::Unread(name)) => Outcome::Unread(name),

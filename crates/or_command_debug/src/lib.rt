@@ -2,6 +2,7 @@
 #![tactic(auto)]
 
 mod debugging;
+pub mod laws;
 mod scripts;
 
 pub use debugging::debug;

@@ -12,7 +12,7 @@ pub silent_none : (a : HostState) → Silent a a
 silent_none a = record { said = same_refl a.said; later = omega arith }
 
 pub only_none : (a : HostState) → OnlySays a a
-only_none a = record { names = λ name. same_refl (a.holds name); written = same_refl a.written; faults = refl; blame = refl }
+only_none a = record { names = λ name. same_refl (a.holds name); written = same_refl a.written; faults = refl; lacks = refl; blame = refl }
 
 -- no line was said
 pub heard_none : (tries : ℕ) (a : HostState) → IsHeard tries a a
@@ -26,11 +26,11 @@ said_behind tries zero a b c silent said = silent_then a b c silent said
 said_behind tries (suc lines) a b c silent said = (said.0, said_behind tries lines a b said.0 silent said.1, said.2)
 
 -- the lines behind loads
-pub heard_behind : (tries : ℕ) (a b c : HostState) → Untouched a b → NoFault a b → Silent a b → IsHeard tries b c → IsHeard tries a c
-heard_behind tries a b c untouched no_fault silent is = record {
+pub heard_behind : (tries : ℕ) (a b c : HostState) → Untouched a b → NoFault a b → b.lacks ≡ a.lacks → Silent a b → IsHeard tries b c → IsHeard tries a c
+heard_behind tries a b c untouched no_fault lacks silent is = record {
   lines = is.lines;
   said = said_behind tries is.lines a b c silent is.said;
-  only = only_then a b c (record { names = untouched.names; written = untouched.written; faults = no_fault.faults; blame = no_fault.blame }) is.only;
+  only = only_then a b c (record { names = untouched.names; written = untouched.written; faults = no_fault.faults; lacks = lacks; blame = no_fault.blame }) is.only;
 }
 
 -- one line more

@@ -32,18 +32,18 @@ use Rattle.or_command.specs.Loads.{AllRead, LoadsAll, LoadsSome}
 use Rattle.or_command.specs.Writes.{File}
 use Rattle.or_command.specs.Ends.{FailedCheck, CommandEnd, done, unread, too_long, refused, unwritten, no_memory}
 use Rattle.or_command.specs.Answered.{Stops}
-use Rattle.or_command.specs.Finishing.{WriteEnds}
-use Rattle.or_command.specs.Outcomes.{LeavesAll, AreApart, OutcomeBy}
+use Rattle.or_command.specs.Finishing.{WriteEnds, IfNoMemory}
+use Rattle.or_command.specs.Outcomes.{AreApart, OutcomeBy}
 use Rattle.or_command.specs.Said.{OnlySays}
 use Rattle.or_command.proofs.TellsLemmas.{same_refl}
-use Rattle.or_command.proofs.OutcomesLemmas.{read_stays, end_of_stop, stop_by}
-use Rattle.or_command.proofs.FinishingLemmas.{loaded_goes_on}
+use Rattle.or_command.proofs.OutcomesLemmas.{read_stays, end_of_stop, stop_by, load_lacks}
+use Rattle.or_command.proofs.FinishingLemmas.{loaded_goes_behind}
 use Rattle.or_command_image.specs.Loaded.{image_in, input_in, image_check}
 use Rattle.or_command_image.specs.Opened.{head_of}
 use Rattle.or_command_image.proofs.Images.{image_status, written_files, written_apart}
 use Rattle.or_hunt.specs.Failing.{NoneFails}
 use Rattle.or_command_hunt.specs.Tries.{IsHeard}
-use Rattle.or_command_hunt.specs.Hunt.{hunt_loads, hunt_image_check, HuntVerdict, HuntWrites, AllPass, IsHunted, hunt_start, hunt_text, no_failure}
+use Rattle.or_command_hunt.specs.Hunt.{hunt_loads, hunt_image_check, HuntVerdict, HuntWrites, HuntLacks, AllPass, IsHunted, hunt_start, hunt_text, no_failure}
 use Rattle.or_command_hunt.specs.Finishing.{IsFound, HuntGoesOn, HuntEnds}
 use Rattle.or_command_hunt.proofs.Heard.{heard_behind, heard_none, silent_none}
 
@@ -82,6 +82,7 @@ read_still names files a b c all only = record {
   read = read_stays (hunt_loads names) files b c only.names all.read;
   untouched = record { names = λ name. same_refl (c.holds name); written = same_refl c.written };
   no_fault = record { faults = refl; blame = refl };
+  lacks = refl;
 }
 
 -- a hunt goes on with the files that it has loaded into an empty list
@@ -91,10 +92,12 @@ hunt_goes_on names options written held kept end a b c none all silent ends =
     let same : kept ≡ all.files = all.stands ∙ ap (λ l. l ++ all.files) none in
     record {
       heard = ends.heard;
-      tries = heard_behind options.tries a b ends.heard all.all.untouched all.all.no_fault silent ends.tries;
-      outcome = loaded_goes_on (hunt_loads names) (HuntVerdict names options) (HuntWrites names options) (apart_of names options written) [] all.files end ends.heard ends.heard c refl
+      tries = heard_behind options.tries a b ends.heard all.all.untouched all.all.no_fault all.all.lacks silent ends.tries;
+      outcome = loaded_goes_behind (hunt_loads names) (HuntVerdict names options) (HuntWrites names options) (apart_of names options written)
+          (λ files. hunt_image_check names options files ≡ None) [] all.files end ends.heard ends.heard c refl
           (record { files = all.files; stands = refl; all = read_still names all.files a b ends.heard all.all ends.tries.only })
-          (subst (λ (files : List (List ℕ)). Rattle.or_command.specs.Finishing.GoesOn (HuntVerdict names options) (HuntWrites names options) files end ends.heard c) same ends.ends);
+          (subst (λ (files : List (List ℕ)). Rattle.or_command.specs.Finishing.GoesOn (HuntVerdict names options) (HuntWrites names options) files end ends.heard c) same ends.ends)
+          (subst (λ (files : List (List ℕ)). IfNoMemory end (hunt_image_check names options files ≡ None)) same ends.passed);
       silent = ends.silent;
     }
 
@@ -111,20 +114,22 @@ pub hunt_stops : (names : Names) (options : HuntOptions) (stop : LoadStop) (held
 hunt_stops names options stop held kept a b some silent = record {
   heard = a;
   tries = heard_none options.tries a;
-  outcome = stop_by (hunt_loads names) (HuntVerdict names options) (HuntWrites names options) LeavesAll stop some.files a b (λ left. left) some.stops;
+  outcome = stop_by (hunt_loads names) (HuntVerdict names options) (HuntWrites names options) (HuntLacks names options) stop some.files a b
+      (load_lacks (hunt_loads names) (λ files. hunt_image_check names options files ≡ None) a b) some.stops;
   silent = silent;
 }
 
 -- a hunt that ends behind its loads where the host is as it was
 pub hunt_stays : (names : Names) (options : HuntOptions) (files : List (List ℕ)) (end : CommandEnd) (a b : HostState) → IsHeard options.tries a b
-    → Rattle.or_command.specs.Finishing.GoesOn (HuntVerdict names options) (HuntWrites names options) files end b b → HuntGoesOn names options files end a b
-hunt_stays names options files end a b tries ends = record { heard = b; tries = tries; ends = ends; silent = silent_none b }
+    → Rattle.or_command.specs.Finishing.GoesOn (HuntVerdict names options) (HuntWrites names options) files end b b
+    → IfNoMemory end (hunt_image_check names options files ≡ None) → HuntGoesOn names options files end a b
+hunt_stays names options files end a b tries ends passed = record { heard = b; tries = tries; ends = ends; passed = passed; silent = silent_none b }
 
 -- the image has a fault, or memory ran out before the first try
 pub hunt_refused : (names : Names) (options : HuntOptions) (files : List (List ℕ)) (end : CommandEnd) (a : HostState) → Stops (hunt_image_check names options files) end
     → HuntGoesOn names options files end a a
-hunt_refused names options files (refused fault) a stops = hunt_stays names options files (refused fault) a a (heard_none options.tries a) (inl stops, refl)
-hunt_refused names options files no_memory a stops = hunt_stays names options files no_memory a a (heard_none options.tries a) refl
+hunt_refused names options files (refused fault) a stops = hunt_stays names options files (refused fault) a a (heard_none options.tries a) (inl stops, refl) tt
+hunt_refused names options files no_memory a stops = hunt_stays names options files no_memory a a (heard_none options.tries a) refl stops
 hunt_refused names options files done a stops = absurd stops
 hunt_refused names options files (unread name) a stops = absurd stops
 hunt_refused names options files (too_long name limit) a stops = absurd stops
@@ -135,7 +140,7 @@ pub hunt_fails_not : (names : Names) (options : HuntOptions) (files : List (List
     → IsHeard options.tries a b → NoneFails (hunt_start options files) options.seed options.tries
     → HuntGoesOn names options files (refused (no_failure options.tries)) a b
 hunt_fails_not names options files a b sound tries none =
-    hunt_stays names options files (refused (no_failure options.tries)) a b tries (inr (sound, record { none = none; told = refl }), refl)
+    hunt_stays names options files (refused (no_failure options.tries)) a b tries (inr (sound, record { none = none; told = refl }), refl) tt
 
 -- some seed of the range fails, and its texts are written, or a write of them fails
 pub hunt_found : (names : Names) (options : HuntOptions) (files : List (List ℕ)) (recording report text : List ℕ) (end : CommandEnd) (a b c : HostState)
@@ -151,6 +156,7 @@ hunt_found names options files recording report text done a b c sound tries foun
     writes = record { seed = found.seed; least = found.least; recording = recording; report = report; hunted = found.hunted; outputs = refl };
     ends = ends;
   };
+  passed = tt;
   silent = silent;
 }
 hunt_found names options files recording report text (unwritten name) a b c sound tries found ends silent = record {
@@ -163,6 +169,7 @@ hunt_found names options files recording report text (unwritten name) a b c soun
     writes = record { seed = found.seed; least = found.least; recording = recording; report = report; hunted = found.hunted; outputs = refl };
     ends = ends;
   };
+  passed = tt;
   silent = silent;
 }
 hunt_found names options files recording report text (unread name) a b c sound tries found ends silent = absurd ends

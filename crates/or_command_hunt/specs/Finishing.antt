@@ -1,16 +1,16 @@
 -- How a hunt ends before its line is said.
-use Rattle.std.specs.Prelude.{ℕ, List}
+use Rattle.std.specs.Prelude.{◌≡◌, ℕ, List, None}
 use Rattle.or_host.specs.HostState.{HostState}
 use Rattle.or_command_line.specs.declared.HuntOptions.{HuntOptions}
 use Rattle.or_command_line.specs.Names.{Names}
 use Rattle.or_command.specs.Leaves.{Silent}
 use Rattle.or_command.specs.Ends.{CommandEnd}
-use Rattle.or_command.specs.Outcomes.{LeavesAll, OutcomeBy}
-use Rattle.or_command.specs.Finishing.{GoesOn}
+use Rattle.or_command.specs.Outcomes.{OutcomeBy}
+use Rattle.or_command.specs.Finishing.{GoesOn, IfNoMemory}
 use Rattle.or_replay.specs.Start.{start}
 use Rattle.or_hunt.specs.Failing.{IsLeastFailing}
 use Rattle.or_command_image.specs.Opened.{head_of}
-use Rattle.or_command_hunt.specs.Hunt.{hunt_loads, HuntVerdict, HuntWrites, IsHunted}
+use Rattle.or_command_hunt.specs.Hunt.{hunt_loads, hunt_image_check, HuntVerdict, HuntWrites, HuntLacks, IsHunted}
 use Rattle.or_command_hunt.specs.Tries.{IsHeard}
 
 -- the texts of the least seed of the range that fails
@@ -24,11 +24,12 @@ pub record HuntGoesOn (names : Names) (options : HuntOptions) (files : List (Lis
   pub heard : HostState
   pub tries : IsHeard options.tries old heard
   pub ends : GoesOn (HuntVerdict names options) (HuntWrites names options) files end heard new
+  pub passed : IfNoMemory end (hunt_image_check names options files ≡ None)
   pub silent : Silent heard new
 
 -- the whole command
 pub record HuntEnds (names : Names) (options : HuntOptions) (end : CommandEnd) (old new : HostState) : Type 0 where
   pub heard : HostState
   pub tries : IsHeard options.tries old heard
-  pub outcome : OutcomeBy (hunt_loads names) (HuntVerdict names options) (HuntWrites names options) LeavesAll end heard new
+  pub outcome : OutcomeBy (hunt_loads names) (HuntVerdict names options) (HuntWrites names options) (HuntLacks names options) end heard new
   pub silent : Silent heard new

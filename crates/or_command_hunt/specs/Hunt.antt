@@ -25,7 +25,7 @@ use Rattle.or_command.specs.Lines.{no_failure_line}
 use Rattle.or_command.specs.Sentences.{no_failure_sentence}
 use Rattle.or_command.specs.Writes.{File}
 use Rattle.or_command.specs.Ends.{FailedCheck}
-use Rattle.or_command.specs.Outcomes.{LeavesAll}
+use Rattle.or_command.specs.Outcomes.{LacksMemory}
 use Rattle.or_command.specs.Answered.{AnswersBy, IsDecidedBy}
 use Rattle.or_command_image.specs.Loaded.{image_loads, image_in, input_in, image_check}
 use Rattle.or_command_image.specs.Opened.{head_of}
@@ -37,6 +37,10 @@ hunt_loads names = image_loads names.image names.input
 -- the image has no fault for this size of RAM
 abbrev pub hunt_image_check : Names → HuntOptions → List (List ℕ) → Option FailedCheck
 hunt_image_check names options files = image_check names.image (elf_fault (image_in files) (ram_bytes options.config))
+
+-- where memory ran out, the image has no fault, if it was read
+abbrev pub HuntLacks : Names → HuntOptions → HostState → HostState → Type 0
+HuntLacks names options = LacksMemory (hunt_loads names) (λ files. hunt_image_check names options files ≡ None)
 
 -- the board that each try begins with
 abbrev pub hunt_start : HuntOptions → List (List ℕ) → Board
@@ -102,10 +106,10 @@ pub record HuntWrites (names : Names) (options : HuntOptions) (files : List (Lis
 pub record HuntAnswers (names : Names) (options : HuntOptions) (status : ℕ) (old new : HostState) : Type 0 where
   pub heard : HostState
   pub tries : IsHeard options.tries old heard
-  pub answers : AnswersBy (hunt_loads names) (HuntVerdict names options) (HuntWrites names options) LeavesAll status heard new
+  pub answers : AnswersBy (hunt_loads names) (HuntVerdict names options) (HuntWrites names options) (HuntLacks names options) status heard new
 
 -- where no fault came, the files decide the status, or memory ran out
 pub record HuntDecided (names : Names) (options : HuntOptions) (status : ℕ) (old new : HostState) : Type 0 where
   pub heard : HostState
   pub tries : IsHeard options.tries old heard
-  pub decided : IsDecidedBy (hunt_loads names) (HuntVerdict names options) (HuntWrites names options) LeavesAll status heard new
+  pub decided : IsDecidedBy (hunt_loads names) (HuntVerdict names options) (HuntWrites names options) (HuntLacks names options) status heard new

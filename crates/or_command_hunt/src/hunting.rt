@@ -13,15 +13,18 @@ ghost use Rattle.or_command_line.specs.Settings.{FitsHunt};
 ghost use Rattle.or_command.specs.Ends.{end_of};
 ghost use Rattle.or_command.specs.Loads.{bytes_of};
 ghost use Rattle.or_command_image.specs.Loaded.{image_in as image_of};
-ghost use Rattle.or_command_image.specs.Opened.{head_of, RunFails};
+ghost use Rattle.or_replay.specs.Opening.{FailsToOpen};
+ghost use Rattle.or_command_image.specs.Opened.{head_of};
 ghost use Rattle.or_command_hunt.specs.Hunt.{hunt_start, IsHunted};
 ghost use Rattle.or_command_hunt.specs.Tries.{IsHeard};
 ghost use Rattle.or_command_hunt.specs.Finishing.{IsFound, HuntGoesOn, HuntEnds};
 
 use crate::telling::append_told;
 use crate::trying::try_seeds;
-use or_command::{LoadStop, Outcome, Refusal};
-use or_command_image::{head, image_in, input_in, load_image, refused, write_recorded};
+use or_command::{LoadStop, Loaded, Outcome, Refusal};
+use or_command_image::{
+    head, image_in, input_for_board, input_in, load_image, refused, write_recorded,
+};
 use or_command_line::{Hunt, HuntOptions};
 use or_host::Host;
 use or_hunt::{Found, Made};
@@ -44,12 +47,12 @@ fn open(alloc: Global, config: &Config, image: &[u8], input: &[u8]) -> Result<Bo
     requires limit { length image.now ≤ 67108864 }
     ensures { MatchResult result
         (λ board. (elf_fault image.now (ram_bytes config.now) ≡ None) × IsBoard board.cores board.bus (start config.now image.now input.now))
-        (λ fault. RunFails image.now (ram_bytes config.now) fault) }
+        (λ fault. FailsToOpen image.now (ram_bytes config.now) fault) }
 {
-    let Ok(bytes) = Vec::from_slice(alloc, input) else {
-        return Err(OpenFault::NoMemory);
-    };
-    Board::open(alloc, config, image, bytes)
+    match input_for_board(alloc, config, image, input) {
+        Ok(bytes) => Board::open(alloc, config, image, bytes),
+        Err(fault) => Err(fault),
+    }
 }
 
 // The texts of a seed on which a core fails, which was tried behind so many others less one.
@@ -186,7 +189,7 @@ pub fn hunt<'a, H: Host>(alloc: Global, words: &Hunt<'a>, host: &mut H) -> Outco
     requires range { FitsHunt words.now.options }
     ensures { HuntEnds (hunt_names words.now) words.now.options (end_of result) (H.state host.old) (H.state host.new) }
 {
-    let mut files = Vec::new(alloc);
+    let mut files = Loaded::new_in(alloc);
     match load_image(alloc, host, words.image, words.input, &mut files) {
         Ok(()) => finish(alloc, words, files.as_slice(), host),
         Err(LoadStop::Unread(name)) => Outcome::Unread(name),

@@ -1,7 +1,7 @@
 //! Loads an image, a console's input, and a recording of a run.
 #![tactic(auto)]
 
-ghost use Rattle.std.specs.Prelude.{◌≡◌, ◌≢◌, false, codes, MatchResult};
+ghost use Rattle.std.specs.Prelude.{◌≡◌, ◌≢◌, [], false, codes, MatchResult};
 ghost use Rattle.std.specs.Str.{bytes_eq};
 ghost use Rattle.or_host.specs.Calls.{IsName};
 ghost use Rattle.or_command.specs.Leaves.{Silent};
@@ -10,22 +10,23 @@ ghost use Rattle.or_command_image.specs.Loaded.{image_loads, recorded_loads, ima
 
 mod opened;
 
-pub use opened::{head, refused, write_recorded};
-use or_command::{Input, LoadStop, load_files};
+pub use opened::{head, input_for_board, refused, write_recorded};
+use or_command::{Input, LoadStop, Loaded, load_files};
 use or_host::Host;
 use or_words::limits::{IMAGE_LIMIT, INPUT_LIMIT, RECORDING_LIMIT};
 use std::alloc::Global;
 
-/// Loads the image, and then the input where its name is not `-`.
+/// Loads the image, and then the input where its name is not `-`, into an empty list.
 pub fn load_image<'a, H: Host>(
     alloc: Global,
     host: &mut H,
     image: &'a str,
     input: &'a str,
-    into: &mut Vec<Vec<u8>>,
+    into: &mut Loaded,
 ) -> Result<(), LoadStop<'a>>
     requires image { IsName image.now }
     requires input { bytes_eq input.now (codes "-") ≡ false → IsName input.now }
+    requires empty { into.old.items ≡ [] }
     ensures files { MatchResult result
         (λ _. LoadsAll (image_loads image.now input.now) (bytes_of into.old.items) (bytes_of into.new.items) (H.state host.old) (H.state host.new))
         (λ stop. LoadsSome (image_loads image.now input.now) stop (bytes_of into.old.items) (bytes_of into.new.items) (H.state host.old) (H.state host.new)) }
@@ -66,18 +67,19 @@ pub fn input_in(files: &[Vec<u8>]) -> &[u8]
     }
 }
 
-/// Loads the image, the input where its name is not `-`, and the recording.
+/// Loads the image, the input where its name is not `-`, and the recording, into an empty list.
 pub fn load_recorded<'a, H: Host>(
     alloc: Global,
     host: &mut H,
     image: &'a str,
     input: &'a str,
     recording: &'a str,
-    into: &mut Vec<Vec<u8>>,
+    into: &mut Loaded,
 ) -> Result<(), LoadStop<'a>>
     requires image { IsName image.now }
     requires input { bytes_eq input.now (codes "-") ≡ false → IsName input.now }
     requires recording { IsName recording.now }
+    requires empty { into.old.items ≡ [] }
     ensures files { MatchResult result
         (λ _. LoadsAll (recorded_loads image.now input.now recording.now) (bytes_of into.old.items) (bytes_of into.new.items) (H.state host.old) (H.state host.new))
         (λ stop. LoadsSome (recorded_loads image.now input.now recording.now) stop (bytes_of into.old.items) (bytes_of into.new.items) (H.state host.old) (H.state host.new)) }

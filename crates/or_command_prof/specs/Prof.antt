@@ -9,17 +9,23 @@ use Rattle.or_sched.specs.declared.recording.Mark.{Mark}
 use Rattle.or_command.specs.Loads.{Load}
 use Rattle.or_command.specs.Writes.{File}
 use Rattle.or_command.specs.Ends.{FailedCheck}
+use Rattle.or_command.specs.Outcomes.{LacksMemory}
+use Rattle.or_host.specs.HostState.{HostState}
 use Rattle.or_command_line.specs.Names.{Recorded}
 use Rattle.or_command_image.specs.Loaded.{RecordedBytes}
 use Rattle.or_replay.specs.Start.{start}
 use Rattle.or_recorded.specs.Checked.{IsChecked}
-use Rattle.or_recorded.specs.Replay.{replay_loads, bytes_in, IsRefused, IsSound}
+use Rattle.or_recorded.specs.Replay.{replay_loads, bytes_in, FilesRunShort, IsRefused, IsSound}
 use Rattle.or_recorded.specs.Refused.{symbols_check}
 use Rattle.or_prof.specs.Text.{IsProfText}
 use Rattle.or_command_prof.specs.Traces.{traces}
 
 abbrev pub prof_loads : Recorded → List Load
 prof_loads names = replay_loads names
+
+-- what it leaves where memory ran out
+abbrev pub ProfLacks : Recorded → HostState → HostState → Type 0
+ProfLacks names = LacksMemory (prof_loads names) (FilesRunShort names)
 
 -- the checks of the recorded run pass, and the image's symbols have this fault, or none
 pub record HasSymbolFault (bytes : RecordedBytes) (fault : Option SymFault) : Type 0 where

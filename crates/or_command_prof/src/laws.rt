@@ -6,7 +6,8 @@ ghost use Rattle.or_replay.specs.Start.{start};
 ghost use Rattle.or_prof.specs.Profile.{items_of};
 ghost use Rattle.or_command.specs.Ends.{FailedCheck};
 ghost use Rattle.or_command_line.specs.Names.{recorded_names};
-ghost use Rattle.or_command_prof.specs.Prof.{ProfVerdict};
+ghost use Rattle.or_command.specs.Writes.{File};
+ghost use Rattle.or_command_prof.specs.Prof.{ProfVerdict, ProfWrites};
 ghost use Rattle.or_command_prof.specs.Traces.{traces};
 
 use or_command_line::Recorded;
@@ -27,6 +28,14 @@ pub fn items_are_steps(config: &Config, image: &[u8], input: &[u8], turns: &[u8]
 pub fn files_have_one_verdict(names: &Recorded<'_>)
     ensures { (files : List (List ℕ)) (found other : Option FailedCheck) → ProfVerdict (recorded_names names.now) files found
         → ProfVerdict (recorded_names names.now) files other → found ≡ other }
+{
+    let _ = names;
+}
+
+/// They have one profile.
+pub fn files_have_one_profile(names: &Recorded<'_>)
+    ensures { (files : List (List ℕ)) (outs others : List File) (console other : List ℕ) → ProfWrites (recorded_names names.now) files outs console
+        → ProfWrites (recorded_names names.now) files others other → (outs ≡ others) × (console ≡ other) }
 {
     let _ = names;
 }

@@ -5,17 +5,17 @@ ghost use Rattle.or_words.specs.Settings.{Fits, ram_bytes};
 ghost use Rattle.or_elf.specs.Fault.{elf_fault};
 ghost use Rattle.or_command.specs.Leaves.{Silent};
 ghost use Rattle.or_command.specs.Ends.{end_of};
-ghost use Rattle.or_command.specs.Finishing.{GoesOn};
-ghost use Rattle.or_command.specs.Outcomes.{OutcomeBy, LeavesAll};
+ghost use Rattle.or_command.specs.Finishing.{GoesOn, IfNoMemory};
+ghost use Rattle.or_command.specs.Outcomes.{OutcomeBy};
 ghost use Rattle.or_command.specs.Loads.{bytes_of};
 ghost use Rattle.or_command_line.specs.Names.{recorded_names, AreRecorded};
 ghost use Rattle.or_command_image.specs.Loaded.{RecordedBytes};
 ghost use Rattle.or_recorded.specs.Checked.{IsChecked};
-ghost use Rattle.or_recorded.specs.Replay.{bytes_in};
-ghost use Rattle.or_command_prof.specs.Prof.{prof_loads, ProfVerdict, ProfWrites, IsText};
+ghost use Rattle.or_recorded.specs.Replay.{bytes_in, FilesRunShort};
+ghost use Rattle.or_command_prof.specs.Prof.{prof_loads, ProfVerdict, ProfWrites, ProfLacks, IsText};
 
 use crate::counting::profile_text;
-use or_command::{LoadStop, Outcome};
+use or_command::{LoadStop, Loaded, Outcome};
 use or_command_image::{load_recorded, recorded_in};
 use or_command_line::Recorded;
 use or_elf::{SymFault, Symbols};
@@ -53,6 +53,7 @@ fn finish<'a, H: Host>(
 ) -> Outcome<'a>
     requires limit { length (bytes_in (recorded_names names.now) (bytes_of files.now)).image ≤ 67108864 }
     ensures outcome { GoesOn (ProfVerdict (recorded_names names.now)) (ProfWrites (recorded_names names.now)) (bytes_of files.now) (end_of result) (H.state host.old) (H.state host.new) }
+    ensures passed { IfNoMemory (end_of result) (FilesRunShort (recorded_names names.now) (bytes_of files.now)) }
     ensures silent { Silent (H.state host.old) (H.state host.new) }
 {
     let read = recorded_in(names.input, files);
@@ -72,11 +73,11 @@ fn finish<'a, H: Host>(
 /// follows the turns, and writes to standard output how many steps each core made in each function.
 pub fn prof<'a, H: Host>(alloc: Global, names: &Recorded<'a>, host: &mut H) -> Outcome<'a>
     requires { AreRecorded (recorded_names names.now) }
-    ensures outcome { OutcomeBy (prof_loads (recorded_names names.now)) (ProfVerdict (recorded_names names.now)) (ProfWrites (recorded_names names.now)) LeavesAll
+    ensures outcome { OutcomeBy (prof_loads (recorded_names names.now)) (ProfVerdict (recorded_names names.now)) (ProfWrites (recorded_names names.now)) (ProfLacks (recorded_names names.now))
         (end_of result) (H.state host.old) (H.state host.new) }
     ensures silent { Silent (H.state host.old) (H.state host.new) }
 {
-    let mut files = Vec::new(alloc);
+    let mut files = Loaded::new_in(alloc);
     match load_recorded(
         alloc,
         host,

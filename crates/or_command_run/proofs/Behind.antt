@@ -1,5 +1,5 @@
 -- What a command's files decide is decided as well where more is said behind its end.
-use Rattle.std.proofs.Common.{◌≡◌, ◌∙◌, sym, ap, subst, ℕ, List, [], ◌∷◌, Option, Some, None}
+use Rattle.std.proofs.Common.{◌≡◌, ◌∙◌, sym, ap, subst, inl, inr, ℕ, List, [], ◌∷◌, Option, Some, None}
 use Rattle.or_host.specs.HostState.{HostState}
 use Rattle.or_host.specs.Told.{Content, TellsSame}
 use Rattle.or_host.specs.Counts.{Rose}
@@ -39,8 +39,14 @@ long_before loads d e only long = record {
 
 pub decided_behind : (loads : List Load) (verdict : List (List ℕ) → Option FailedCheck) (Writes : List (List ℕ) → List File → List ℕ → Type 0)
     (Lacking : HostState → HostState → Type 0) (status : ℕ) (a d e : HostState)
-    → IsDecided loads verdict Writes Lacking status a d → OnlySays d e → IsDecided loads verdict Writes Lacking status a e
-decided_behind loads verdict Writes Lacking status a d e decided only = record {
-  by_files = λ files told sound. decided.by_files files (told_before loads files d e only told) (λ rose. sound (subst (λ (n : ℕ). Rose a.faults n) (sym only.faults) rose));
-  by_long = λ long sound. decided.by_long (long_before loads d e only long) (λ rose. sound (subst (λ (n : ℕ). Rose a.faults n) (sym only.faults) rose));
+    → (Lacking a d → Lacking a e) → IsDecided loads verdict Writes Lacking status a d → OnlySays d e → IsDecided loads verdict Writes Lacking status a e
+decided_behind loads verdict Writes Lacking status a d e lacking decided only = record {
+  by_files = λ files told sound. elim (decided.by_files files (told_before loads files d e only told) (λ rose. sound (subst (λ (n : ℕ). Rose a.faults n) (sym only.faults) rose))) [
+    | inl is ↦ inl is
+    | inr lacks ↦ inr (lacks.0, lacking lacks.1)
+  ];
+  by_long = λ long sound. elim (decided.by_long (long_before loads d e only long) (λ rose. sound (subst (λ (n : ℕ). Rose a.faults n) (sym only.faults) rose))) [
+    | inl is ↦ inl is
+    | inr lacks ↦ inr (lacks.0, lacking lacks.1)
+  ];
 }

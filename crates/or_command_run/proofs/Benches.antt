@@ -8,7 +8,7 @@ use Rattle.or_elf.specs.Fault.{elf_fault}
 use Rattle.or_command_line.specs.declared.Workload.{Workload}
 use Rattle.or_command.specs.Writes.{File}
 use Rattle.or_command.specs.Ends.{FailedCheck, CommandEnd, done, unread, too_long, refused, unwritten, no_memory}
-use Rattle.or_command.specs.Answered.{Stops}
+use Rattle.or_command.specs.Answered.{StopsInCheck}
 use Rattle.or_command.specs.Outcomes.{AreApart}
 use Rattle.or_command_run.specs.Bench.{bench_loads, bench_check, bench_config, bench_name, bench_source, workload_told, workload_check, program_check, BenchWrites}
 use Rattle.or_command_image.proofs.Images.{image_status}
@@ -26,7 +26,7 @@ program_not_two numbers (Err refusal) fault found two =
     let nine : fault.status ≡ 9 = sym (ap (λ (f : FailedCheck). f.status) same) in absurd (omega (arith, nine, two))
 
 -- a source that has no program stops a bench
-pub program_stops : (numbers : Workload) (said : Result (List Piece) SourceFault) (end : CommandEnd) → Stops (workload_check said) end → Stops (program_check numbers said) end
+pub program_stops : (numbers : Workload) (said : Result (List Piece) SourceFault) (end : CommandEnd) → StopsInCheck (workload_check said) end → StopsInCheck (program_check numbers said) end
 program_stops numbers (Err refusal) end stops = stops
 program_stops numbers (Ok program) (refused fault) stops = absurd (let b : ⊥ = cc in b)
 program_stops numbers (Ok program) no_memory stops = stops

@@ -1,5 +1,5 @@
 -- What the command `run` loads, checks and writes.
-use Rattle.std.specs.Prelude.{◌≡◌, ℕ, ◌==◌, List, [], ◌∷◌, Option, Bool, ◌&&◌, if◌then◌else◌, length}
+use Rattle.std.specs.Prelude.{◌≡◌, ℕ, ◌==◌, List, [], ◌∷◌, Option, None, Bool, ◌&&◌, if◌then◌else◌, length}
 use Rattle.or_words.specs.declared.Config.{Config}
 use Rattle.or_words.specs.Settings.{ram_bytes}
 use Rattle.or_elf.specs.Fault.{elf_fault}
@@ -14,7 +14,7 @@ use Rattle.or_command_line.specs.Names.{Names}
 use Rattle.or_command.specs.Loads.{Load}
 use Rattle.or_command.specs.Writes.{File}
 use Rattle.or_command.specs.Ends.{FailedCheck}
-use Rattle.or_command.specs.Outcomes.{LeavesAll}
+use Rattle.or_command.specs.Outcomes.{LacksMemory}
 use Rattle.or_command.specs.Answered.{Answers, IsDecided}
 use Rattle.or_command_image.specs.Loaded.{image_loads, image_in, input_in, image_check}
 use Rattle.or_command_image.specs.Opened.{head_of}
@@ -27,6 +27,10 @@ run_loads names = image_loads names.image names.input
 -- the image has no fault for this size of RAM
 abbrev pub run_check : Names → Config → List (List ℕ) → Option FailedCheck
 run_check names config files = image_check names.image (elf_fault (image_in files) (ram_bytes config))
+
+-- where memory ran out, the image has no fault, if it was read
+abbrev pub RunLacks : Names → Config → HostState → HostState → Type 0
+RunLacks names config = LacksMemory (run_loads names) (λ files. run_check names config files ≡ None)
 
 -- a recorded run of an image from a start, the report of the board to which it leads, whether a core failed, and the lines of the
 -- cores that used up their budget
@@ -60,7 +64,7 @@ pub record RunAnswers (names : Names) (options : RunOptions) (status : ℕ) (old
   pub plain : ℕ
   pub status_is : status ≡ run_status options.status failed plain
   pub ended : HostState
-  pub answers : Answers (run_loads names) (run_check names options.config) (RunWrites names options.config failed lines) LeavesAll plain old ended
+  pub answers : Answers (run_loads names) (run_check names options.config) (RunWrites names options.config failed lines) (RunLacks names options.config) plain old ended
   pub told : AreSaidBehind plain lines ended new
 
 -- if no I/O error occurs, the file contents determine the status, unless memory runs out; with `--status` 15 may stand for 0
@@ -69,4 +73,4 @@ pub record RunDecided (names : Names) (options : RunOptions) (status : ℕ) (old
   pub lines : List ℕ
   pub plain : ℕ
   pub status_is : status ≡ run_status options.status failed plain
-  pub decided : IsDecided (run_loads names) (run_check names options.config) (RunWrites names options.config failed lines) LeavesAll plain old new
+  pub decided : IsDecided (run_loads names) (run_check names options.config) (RunWrites names options.config failed lines) (RunLacks names options.config) plain old new

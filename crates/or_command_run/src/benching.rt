@@ -18,7 +18,8 @@ ghost use Rattle.or_command.specs.Answered.{FinishEnds, Stops};
 ghost use Rattle.or_elf.specs.Text.{Piece};
 ghost use Rattle.or_asm.specs.Source.{SourceFault, source_of, Refuses};
 ghost use Rattle.or_command_source.specs.Assembly.{IsFileOf};
-ghost use Rattle.or_command_image.specs.Opened.{head_of, RunFails};
+ghost use Rattle.or_replay.specs.Opening.{FailsToOpen};
+ghost use Rattle.or_command_image.specs.Opened.{head_of};
 ghost use Rattle.or_command_run.specs.Bench.{bench_loads, bench_check, bench_config, bench_source, bench_text, workload_check, IsBenchFrom, BenchWrites};
 
 use or_asm::AsmFault;
@@ -118,7 +119,7 @@ fn make<R: Threads + Wait + Sync, G: Gate + Sync>(
     requires limit { length image.now ≤ IMAGE_LIMIT }
     ensures run { MatchResult result
         (λ texts. (elf_fault image.now (ram_bytes (bench_config workload.now)) ≡ None) × IsBenchFrom (start (bench_config workload.now) image.now []) (head_of (bench_config workload.now) image.now []) workload.now texts.recording.items texts.told.items)
-        (λ fault. RunFails image.now (ram_bytes (bench_config workload.now)) fault) }
+        (λ fault. FailsToOpen image.now (ram_bytes (bench_config workload.now)) fault) }
 {
     let config = config(workload);
     match or_board::run(rt, alloc, &config, image, Vec::new(alloc), stay, gate) {

@@ -11,18 +11,20 @@ ghost use Rattle.or_command_line.specs.Names.{run_names, AreWritten};
 ghost use Rattle.or_command_line.specs.Settings.{FitsStay};
 ghost use Rattle.or_command.specs.Leaves.{Silent};
 ghost use Rattle.or_command.specs.Ends.{end_of};
-ghost use Rattle.or_command.specs.Outcomes.{CommandOutcome, LeavesAll};
+ghost use Rattle.or_command.specs.Outcomes.{CommandOutcome};
 ghost use Rattle.or_command.specs.Loads.{bytes_of};
 ghost use Rattle.or_command_image.specs.Loaded.{image_in as image_of};
-ghost use Rattle.or_command.specs.Finishing.{WriteEnds};
+ghost use Rattle.or_command.specs.Finishing.{WriteEnds, IfNoMemory};
 ghost use Rattle.or_command.specs.Answered.{FinishEnds};
-ghost use Rattle.or_command_image.specs.Opened.{RunFails};
-ghost use Rattle.or_command_run.specs.Run.{run_loads, run_check, IsRun, IsRunFrom, RunWrites, run_status};
+ghost use Rattle.or_replay.specs.Opening.{FailsToOpen};
+ghost use Rattle.or_command_run.specs.Run.{run_loads, run_check, IsRun, IsRunFrom, RunWrites, RunLacks, run_status};
 
 use crate::budgets::budget_lines;
 use or_board::Gate;
-use or_command::{LoadStop, Outcome};
-use or_command_image::{head, image_in, input_in, load_image, refused, write_recorded};
+use or_command::{LoadStop, Loaded, Outcome};
+use or_command_image::{
+    head, image_in, input_for_board, input_in, load_image, refused, write_recorded,
+};
 use or_command_line::{Run, RunOptions};
 use or_host::Host;
 use or_replay::{OpenFault, has_failed, report};
@@ -118,12 +120,13 @@ fn make<R: Threads + Wait + Sync, G: Gate + Sync>(
     requires limit { length image.now ≤ IMAGE_LIMIT }
     ensures run { MatchResult result
         (λ texts. (elf_fault image.now (ram_bytes options.now.config) ≡ None) × IsRun options.now.config image.now input.now texts.recording.items texts.report.items texts.console.items texts.failed texts.lines.items)
-        (λ fault. RunFails image.now (ram_bytes options.now.config) fault) }
+        (λ fault. FailsToOpen image.now (ram_bytes options.now.config) fault) }
 {
-    let Ok(bytes) = Vec::from_slice(alloc, input) else {
-        return Err(OpenFault::NoMemory);
-    };
     let config = &options.config;
+    let bytes = match input_for_board(alloc, config, image, input) {
+        Ok(bytes) => bytes,
+        Err(fault) => return Err(fault),
+    };
     match or_board::run(rt, alloc, config, image, bytes, options.stay, gate) {
         Ok(closed) => match texts(alloc, &head(config, image, input), image, closed) {
             Ok(texts) => Ok(texts),
@@ -147,6 +150,7 @@ fn finish<'a, R: Threads + Wait + Sync, H: Host, G: Gate + Sync>(
     requires stay { FitsStay words.now.options.stay }
     requires limit { length (image_of (bytes_of files.now)) ≤ IMAGE_LIMIT }
     ensures outcome { FinishEnds (run_check (run_names words.now) words.now.options.config) (RunWrites (run_names words.now) words.now.options.config result.failed result.lines.items) (bytes_of files.now) (end_of result.outcome) (H.state host.old) (H.state host.new) }
+    ensures passed { IfNoMemory (end_of result.outcome) (run_check (run_names words.now) words.now.options.config (bytes_of files.now) ≡ None) }
     ensures silent { Silent (H.state host.old) (H.state host.new) }
 {
     match make(
@@ -202,11 +206,11 @@ pub fn run<'a, R: Threads + Wait + Sync, H: Host, G: Gate + Sync>(
     requires names { AreWritten (run_names words.now) }
     requires fits { Fits words.now.options.config }
     requires stay { FitsStay words.now.options.stay }
-    ensures outcome { CommandOutcome (run_loads (run_names words.now)) (run_check (run_names words.now) words.now.options.config) (RunWrites (run_names words.now) words.now.options.config result.failed result.lines.items) LeavesAll
+    ensures outcome { CommandOutcome (run_loads (run_names words.now)) (run_check (run_names words.now) words.now.options.config) (RunWrites (run_names words.now) words.now.options.config result.failed result.lines.items) (RunLacks (run_names words.now) words.now.options.config)
         (end_of result.outcome) (H.state host.old) (H.state host.new) }
     ensures silent { Silent (H.state host.old) (H.state host.new) }
 {
-    let mut files = Vec::new(alloc);
+    let mut files = Loaded::new_in(alloc);
     match load_image(alloc, host, words.image, words.input, &mut files) {
         Ok(()) => finish(rt, alloc, words, files.as_slice(), host, gate),
         Err(LoadStop::Unread(name)) => RunEnd {

@@ -8,6 +8,7 @@ use Rattle.or_elf.specs.Text.{Piece, word_count, elf_text}
 use Rattle.or_elf.proofs.WrittenFault.{length-elf_text}
 use Rattle.or_host.specs.Bytes.{AddsPrefix}
 use Rattle.or_host.specs.Told.{TellsSame, TellsStep}
+use Rattle.or_host.specs.Counts.{Rose}
 use Rattle.or_host.specs.HostState.{HostState}
 use Rattle.or_command.specs.Writes.{File, AllWritten}
 use Rattle.or_command.specs.Loads.{AreRead, AllRead, LoadsAll}
@@ -17,7 +18,7 @@ use Rattle.or_command.specs.Outcomes.{LeavesAll, AreApart, CommandOutcome}
 use Rattle.or_command.proofs.TellsLemmas.{same_refl, same_then, same_then_step, step_then_same, no_fault_then}
 use Rattle.or_command.proofs.OutcomesLemmas.{read_stays, done_outcome, unwritten_outcome, refusal_outcome}
 use Rattle.or_command_source.specs.Assembly.{asm_loads, asm_check, source_told, source_check, AsmWrites, only_file}
-use Rattle.or_command_source.specs.Listing.{dis_loads, dis_check, fault_told, fault_check, DisWrites, DisLacks, IsListed, listing}
+use Rattle.or_command_source.specs.Listing.{dis_loads, dis_check, fault_told, fault_check, DisWrites, DisLacks, HasListed, listing}
 use Rattle.or_command_line.specs.declared.Workload.{Workload}
 use Rattle.or_command_source.specs.Generation.{gen_loads, gen_check, GenWrites}
 use Rattle.or_command_source.specs.Listed.{Wrote, DisEnds}
@@ -50,20 +51,19 @@ none_prefix None (Some y) same = absurd same
 none_prefix (Some x) (Some y) same = record { first = []; is_prefix = record { rest = []; parts = refl }; added = same ∙ sym (append-nil x) }
 
 -- memory that runs out before an image is read leaves all as it was
-pub lacks_none : (image : List ℕ) (a b : HostState) → LeavesAll a b → DisLacks image a b
-lacks_none image a b left = record {
+pub lacks_none : (image : List ℕ) (a b : HostState) → LeavesAll a b → Rose a.lacks b.lacks → DisLacks image a b
+lacks_none image a b left rose = record {
   names = left.untouched.names;
   no_fault = left.no_fault;
   text = [];
-  of_image = inl refl;
+  of_image = inl (refl, rose);
   written = none_prefix a.written b.written left.untouched.written;
 }
 
-listed_then : (image text : List ℕ) (b c : HostState) → ((name : List ℕ) → TellsSame (b.holds name) (c.holds name))
-    → ((text ≡ []) ⊎ IsListed image text b) → (text ≡ []) ⊎ IsListed image text c
-listed_then image text b c names (inl e) = inl e
-listed_then image text b c names (inr at) =
-    inr (record { files = at.files; read = read_stays (dis_loads image) at.files b c names at.read; sound = at.sound; listed = at.listed })
+listed_then : (image text : List ℕ) (a b c : HostState) → OnlySays b c → HasListed image text a b → HasListed image text a c
+listed_then image text a b c only (inl none) = inl (none.0, subst (λ (n : ℕ). Rose a.lacks n) (sym only.lacks) none.1)
+listed_then image text a b c only (inr at) =
+    inr (record { files = at.files; read = read_stays (dis_loads image) at.files b c only.names at.read; sound = at.sound; listed = at.listed })
 
 -- what is said changes none of it
 pub lacks_then_said : (image : List ℕ) (a b c : HostState) → OnlySays b c → DisLacks image a b → DisLacks image a c
@@ -71,7 +71,7 @@ lacks_then_said image a b c only lacks = record {
   names = λ name. same_then (a.holds name) (b.holds name) (c.holds name) (lacks.names name) (only.names name);
   no_fault = record { faults = only.faults ∙ lacks.no_fault.faults; blame = only.blame ∙ lacks.no_fault.blame };
   text = lacks.text;
-  of_image = listed_then image lacks.text b c only.names lacks.of_image;
+  of_image = listed_then image lacks.text a b c only lacks.of_image;
   written = step_then_same (AddsPrefix lacks.text) a.written b.written c.written lacks.written only.written;
 }
 
@@ -124,6 +124,7 @@ none_loaded a = record {
     read = tt;
     untouched = record { names = λ name. same_refl (a.holds name); written = same_refl a.written };
     no_fault = record { faults = refl; blame = refl };
+    lacks = refl;
   };
 }
 

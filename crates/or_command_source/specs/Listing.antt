@@ -14,6 +14,7 @@ use Rattle.or_elf.specs.Fault.{elf_fault, number_of, place_of}
 use Rattle.or_elf.specs.Sentences.{elf_sentence}
 use Rattle.or_host.specs.HostState.{HostState}
 use Rattle.or_host.specs.Told.{TellsSame, TellsStep}
+use Rattle.or_host.specs.Counts.{Rose}
 use Rattle.or_host.specs.Bytes.{AddsPrefix}
 use Rattle.or_command.specs.Leaves.{NoFault}
 use Rattle.or_command.specs.Loads.{Load, AreRead}
@@ -69,17 +70,21 @@ pub record DisWrites (files : List (List ℕ)) (outs : List File) (console : Lis
   pub none : outs ≡ []
   pub listed : console ≡ listing (only_file files)
 
--- nothing was listed yet, or this is the listing of an image that was loaded and has no fault
+-- this is the listing of an image that was loaded and has no fault
 pub record IsListed (image text : List ℕ) (new : HostState) : Type 0 where
   pub files : List (List ℕ)
   pub read : AreRead (dis_loads image) files new
   pub sound : dis_check image files ≡ None
   pub listed : text ≡ listing (only_file files)
 
+-- why memory ran out: a load found none, which the host has counted, or the listing was begun
+abbrev pub HasListed : List ℕ → List ℕ → HostState → HostState → Type 0
+HasListed image text old new = ((text ≡ []) × Rose old.lacks new.lacks) ⊎ IsListed image text new
+
 -- Where memory runs out, a prefix of the listing may have been written.
 pub record DisLacks (image : List ℕ) (old new : HostState) : Type 0 where
   pub names : (name : List ℕ) → TellsSame (old.holds name) (new.holds name)
   pub no_fault : NoFault old new
   pub text : List ℕ
-  pub of_image : (text ≡ []) ⊎ IsListed image text new
+  pub of_image : HasListed image text old new
   pub written : TellsStep (AddsPrefix text) old.written new.written

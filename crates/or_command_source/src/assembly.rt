@@ -9,12 +9,12 @@ ghost use Rattle.or_command.specs.Leaves.{Silent};
 ghost use Rattle.or_command.specs.Loads.{bytes_of};
 ghost use Rattle.or_command.specs.Ends.{end_of};
 ghost use Rattle.or_command.specs.Outcomes.{CommandOutcome, LeavesAll};
-ghost use Rattle.or_command.specs.Answered.{Answers, IsDecided, FinishEnds, Stops};
+ghost use Rattle.or_command.specs.Answered.{Answers, IsDecided, FinishEnds, StopsInCheck};
 ghost use Rattle.or_command_source.specs.Assembly.{asm_loads, asm_check, source_check, AsmWrites, only_file, IsFileOf};
 
 use crate::files::{only_file, write_file};
 use or_asm::{AsmFault, assemble, program_symbols};
-use or_command::{Input, LoadStop, Outcome, Refusal, conclude, load_files};
+use or_command::{Input, LoadStop, Loaded, Outcome, Refusal, conclude, load_files};
 use or_host::Host;
 use or_isa::Program;
 use or_words::limits::SOURCE_LIMIT;
@@ -80,7 +80,7 @@ fn file_of(alloc: Global, source: &[u8], symbols: bool) -> Result<Vec<u8>, AsmFa
 
 // How a source of this name that has no program ends the command.
 fn refuse_source<'a>(name: &'a str, fault: AsmFault<'a>) -> Outcome<'a>
-    ensures { (source : Result (List Piece) SourceFault) → Refuses fault.entry source → Stops (source_check name.now source) (end_of result) }
+    ensures { (source : Result (List Piece) SourceFault) → Refuses fault.entry source → StopsInCheck (source_check name.now source) (end_of result) }
 {
     match fault.line() {
         None => Outcome::NoMemory,
@@ -119,7 +119,7 @@ fn assembled<'a, H: Host>(
     source: &'a str,
     image: &'a str,
     symbols: bool,
-    files: &'a mut Vec<Vec<u8>>,
+    files: &'a mut Loaded,
     host: &mut H,
 ) -> Outcome<'a>
     requires names { IsAssembly source.now image.now }
@@ -150,7 +150,7 @@ pub fn asm<H: Host>(alloc: Global, source: &str, image: &str, symbols: bool, hos
     ensures decided { IsDecided (asm_loads source.now) (asm_check source.now) (AsmWrites image.now symbols) LeavesAll result (H.state host.old) (H.state host.new) }
     ensures command { result ≢ 2 }
 {
-    let mut files = Vec::new(alloc);
+    let mut files = Loaded::new_in(alloc);
     let outcome = assembled(alloc, source, image, symbols, &mut files, host);
     conclude(host, outcome)
 }

@@ -12,7 +12,7 @@ ghost use Rattle.or_command_source.specs.Listed.{DisEnds};
 
 use crate::files::only_file;
 use crate::listing::{ListStop, list_segments};
-use or_command::{Input, LoadStop, Outcome, Refusal, conclude, load_files};
+use or_command::{Input, LoadStop, Loaded, Outcome, Refusal, conclude, load_files};
 use or_host::Host;
 use or_words::limits::{IMAGE_LIMIT, MOST_RAM_BYTES};
 use std::alloc::Global;
@@ -48,7 +48,7 @@ fn disassembled<'a, H: Host>(alloc: Global, image: &'a str, host: &mut H) -> Out
     ensures outcome { CommandOutcome (dis_loads image.now) (dis_check image.now) DisWrites (DisLacks image.now) (end_of result) (H.state host.old) (H.state host.new) }
     ensures silent { Silent (H.state host.old) (H.state host.new) }
 {
-    let mut files = Vec::new(alloc);
+    let mut files = Loaded::new_in(alloc);
     let input = Input {
         name: image,
         limit: IMAGE_LIMIT,

@@ -21,6 +21,7 @@ Rose before after = raised before ≤ after
 pub record Steady (old new : HostState) : Type 0 where
   pub faults : new.faults ≡ old.faults
   pub say_faults : new.say_faults ≡ old.say_faults
+  pub lacks : new.lacks ≡ old.lacks
   pub blame : new.blame ≡ old.blame
 
 -- the count of faults rose, and this is to blame
@@ -28,6 +29,7 @@ pub record Faulted (who : Blamed) (old new : HostState) : Type 0 where
   pub rose : Rose old.faults new.faults
   pub later : old.faults ≤ new.faults
   pub say_later : old.say_faults ≤ new.say_faults
+  pub lacks : new.lacks ≡ old.lacks
   pub blame : new.blame ≡ Some who
 
 -- say's count alone rose
@@ -35,14 +37,22 @@ pub record SayFaulted (old new : HostState) : Type 0 where
   pub rose : Rose old.say_faults new.say_faults
   pub later : old.say_faults ≤ new.say_faults
   pub faults : new.faults ≡ old.faults
+  pub lacks : new.lacks ≡ old.lacks
   pub blame : new.blame ≡ old.blame
 
--- A load answers `Failed` only for a fault. With any other answer the counts and the blame stay.
+-- the count of loads that found no memory alone rose
+pub record Lacked (old new : HostState) : Type 0 where
+  pub rose : Rose old.lacks new.lacks
+  pub faults : new.faults ≡ old.faults
+  pub say_faults : new.say_faults ≡ old.say_faults
+  pub blame : new.blame ≡ old.blame
+
+-- A load answers `Failed` only for a fault, and `NoMemory` only where that is counted. Else the counts and the blame stay.
 abbrev pub LoadCounts : {U : Type 0} → Result U LoadFail → Blamed → HostState → HostState → Type 0
 LoadCounts (Ok _) who old new = Steady old new
 LoadCounts (Err Failed) who old new = Faulted who old new
 LoadCounts (Err TooLong) who old new = Steady old new
-LoadCounts (Err NoMemory) who old new = Steady old new
+LoadCounts (Err NoMemory) who old new = Lacked old new
 
 -- A write fails only for a fault. Else the counts and the blame stay.
 abbrev pub WriteCounts : {U E : Type 0} → Result U E → Blamed → HostState → HostState → Type 0

@@ -1,6 +1,6 @@
 -- What calls leave in memory, where some are listed to fail. `done` says whether the call succeeded, and room is how many
 -- bytes a list can hold before it takes more memory.
-use Rattle.std.specs.Prelude.{◌≡◌, ◌≤◌, ◌<◌, ◌+◌, ◌/◌, ◌++◌, min, ℕ, List, [], length, take, Bool, true, false, Some, None, Result, Ok, Err, IsFalse}
+use Rattle.std.specs.Prelude.{◌≡◌, ◌≤◌, ◌<◌, ◌+◌, ◌/◌, ◌++◌, min, ℕ, List, [], length, take, Bool, true, false, Some, None, Result, Ok, Err, IsFalse, ⊤}
 use Rattle.or_host.specs.declared.host.LoadFail.{LoadFail}
 use Rattle.or_host.specs.declared.host.LoadFail.TheVariants.{Failed, TooLong, NoMemory}
 use Rattle.or_host.specs.Bytes.{half_of, AddsWhereRoom}
@@ -34,6 +34,11 @@ abbrev pub GrowsListed : Bool → ℕ → List ℕ → Bool → List ℕ → Lis
 GrowsListed true room bytes done old new = IsFalse done × AddsWhereRoom room (half_of bytes) old new
 GrowsListed false room bytes true old new = new ≡ old ++ bytes
 GrowsListed false room bytes false old new = (room < length old + length bytes) × (new ≡ old)
+
+-- bytes find no place without further memory: the name is new, or its file has no room for them
+abbrev pub LacksPlace : ℕ → List ℕ → Content → Type 0
+LacksPlace room bytes None = ⊤
+LacksPlace room bytes (Some file) = room < length bytes
 
 -- the same of a file, where an absent one fails
 abbrev pub AppendsListed : Bool → ℕ → List ℕ → Bool → Content → Content → Type 0

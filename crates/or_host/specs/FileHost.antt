@@ -12,6 +12,7 @@ files_state holds host = record {
   said = None;
   faults = host.faults;
   say_faults = host.say_faults;
+  lacks = host.lacks;
   blame = host.blame;
 }
 

@@ -12,5 +12,7 @@ pub record HostState : Type 0 where
   -- the count of faults of all calls but `say`, and that of `say`
   pub faults : ℕ
   pub say_faults : ℕ
+  -- the count of loads that found no memory
+  pub lacks : ℕ
   -- what was being done at the last fault of a call but `say`
   pub blame : Option Blamed

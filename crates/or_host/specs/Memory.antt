@@ -42,6 +42,7 @@ memory_state host = record {
   said = Some host.said.items;
   faults = host.faults;
   say_faults = host.say_faults;
+  lacks = host.lacks;
   blame = host.blame;
 }
 
@@ -51,6 +52,7 @@ pub record StartsWith (failing : List ℕ) (host : MemHost) : Type 0 where
   pub calls : host.calls ≡ 0
   pub faults : host.faults ≡ 0
   pub say_faults : host.say_faults ≡ 0
+  pub lacks : host.lacks ≡ 0
   pub blame : host.blame ≡ None
 
 -- nothing but files changes
@@ -59,13 +61,15 @@ pub record KeepsAllButFiles (old new : MemHost) : Type 0 where
   pub said : new.said ≡ old.said
   pub faults : new.faults ≡ old.faults
   pub say_faults : new.say_faults ≡ old.say_faults
+  pub lacks : new.lacks ≡ old.lacks
   pub blame : new.blame ≡ old.blame
   pub calls : new.calls ≡ old.calls
   pub failing : new.failing ≡ old.failing
 
--- A call is counted and keeps the list. It raises a count of faults by one at most.
+-- A call is counted and keeps the list. It raises each other count by one at most.
 pub record CountsCall (old new : MemHost) : Type 0 where
   pub calls : new.calls ≡ call_number old
   pub failing : new.failing.items ≡ old.failing.items
   pub faults : new.faults ≤ old.faults + 1
   pub say_faults : new.say_faults ≤ old.say_faults + 1
+  pub lacks : new.lacks ≤ old.lacks + 1

@@ -17,6 +17,7 @@ sure_state host = record {
   said = None;
   faults = 0;
   say_faults = 0;
+  lacks = host.lacks;
   blame = None;
 }
 

@@ -23,6 +23,7 @@ pub struct FileHost<F: NamedFiles + Drop, O: Write + Drop, E: Write + Drop> {
     err: E,
     faults: u64,
     say_faults: u64,
+    lacks: u64,
     blame: Option<Blame>,
 }
 
@@ -31,6 +32,7 @@ impl<'a> FileHost<&'a HostRuntime, Stdout, Stderr> {
     pub fn new(rt: &'a HostRuntime) -> Self
         ensures faults { result.faults ≡ 0 }
         ensures say_faults { result.say_faults ≡ 0 }
+        ensures lacks { result.lacks ≡ 0 }
         ensures blame { result.blame ≡ None }
     {
         FileHost::over(rt, rt.stdout(), rt.stderr())
@@ -42,6 +44,7 @@ impl<F: NamedFiles + Drop, O: Write + Drop, E: Write + Drop> FileHost<F, O, E> {
     pub fn over(files: F, out: O, err: E) -> Self
         ensures faults { result.faults ≡ 0 }
         ensures say_faults { result.say_faults ≡ 0 }
+        ensures lacks { result.lacks ≡ 0 }
         ensures blame { result.blame ≡ None }
     {
         FileHost {
@@ -50,6 +53,7 @@ impl<F: NamedFiles + Drop, O: Write + Drop, E: Write + Drop> FileHost<F, O, E> {
             err,
             faults: 0,
             say_faults: 0,
+            lacks: 0,
             blame: None,
         }
     }
@@ -71,11 +75,17 @@ impl<F: NamedFiles + Drop, O: Write + Drop, E: Write + Drop> Host for FileHost<F
         ensures full { LacksRoom result (vec_capacity into.old) into.new.items }
         ensures writers { KeepsWriters self.old self.new }
     {
-        let answer = load_named(&mut self.files, name, max, into);
-        if matches!(answer, Err(LoadFail::Failed)) {
-            note(&mut self.faults, &mut self.blame, Deed::Load, name);
+        match load_named(&mut self.files, name, max, into) {
+            Err(LoadFail::Failed) => {
+                note(&mut self.faults, &mut self.blame, Deed::Load, name);
+                Err(LoadFail::Failed)
+            }
+            Err(LoadFail::NoMemory) => {
+                self.lacks = self.lacks.saturating_add(1);
+                Err(LoadFail::NoMemory)
+            }
+            answer => answer,
         }
-        answer
     }
 
     fn create(&mut self, name: &str) -> Result<(), Failed>

@@ -56,7 +56,7 @@ impl Model for Blame {
 /// Files by name, standard output, and a place where faults are said.
 ///
 /// A host counts its faults, and keeps what was being done at the last one. Faults of `say` are counted for themselves.
-/// A count stands still at the last value of a `u64`.
+/// It also counts the loads that found no memory. A count stands still at the last value of a `u64`.
 pub trait Host {
     /// What a contract sees of the host at a moment.
     ghost state: { Self → HostState };
@@ -64,7 +64,7 @@ pub trait Host {
     /// Takes the bytes that a name holds into an empty list: all of them where they are at most `max`.
     ///
     /// Errors: `TooLong` exactly where `max + 1` bytes were taken; `Failed` for a fault of the host, `NoMemory` where memory
-    /// ran out, both behind a prefix of at most `max` bytes.
+    /// ran out, which is counted, both behind a prefix of at most `max` bytes.
     fn load(&mut self, name: &str, max: usize, into: &mut Vec<u8>) -> Result<(), LoadFail>
         requires name { IsName name.now }
         requires empty { into.old.items ≡ [] }

@@ -9,7 +9,7 @@ ghost use Rattle.or_host.specs.Blamed.{blamed};
 ghost use Rattle.or_host.specs.Told.{TellsSame};
 
 use crate::blame::note;
-use crate::store::{emit, empty_file, grow_file, load_bytes, set_file};
+use crate::store::{emit, empty_file, grow_file, load_bytes, put_file};
 use crate::{Blame, Deed, Failed, Host, LoadFail};
 use or_words::NoMemory;
 use std::alloc::Global;
@@ -26,11 +26,13 @@ pub struct MemHost {
     said: Vec<u8>,
     faults: u64,
     say_faults: u64,
+    lacks: u64,
     blame: Option<Blame>,
 }
 
 impl MemHost {
-    ghost use Rattle.or_host.specs.Memory.{file_of, bytes_out, bytes_said, KeepsAllButFiles, StartsWith};
+    ghost use Rattle.or_host.specs.Memory.{file_of, file_room, bytes_out, bytes_said, KeepsAllButFiles, StartsWith};
+    ghost use Rattle.or_host.specs.Failing.{LacksPlace};
 
     /// A host with no files. Its calls with these numbers, counted from 1 over all five calls, are to fail.
     pub fn new(alloc: Global, failing: Vec<u64>) -> Self
@@ -48,21 +50,21 @@ impl MemHost {
             said: Vec::new(alloc),
             faults: 0,
             say_faults: 0,
+            lacks: 0,
             blame: None,
         }
     }
 
-    /// Makes a name hold these bytes, or changes nothing where memory ran out. It is no counted call.
+    /// Makes a name hold these bytes, or changes nothing where memory ran out: it may for a new name, and for a file that has no
+    /// room for them. It is no counted call.
     pub fn put(&mut self, name: &str, bytes: &[u8]) -> Result<(), NoMemory>
         ensures own { OnOk result (file_of self.new name.now ≡ Some bytes.now) }
+        ensures full { OnErr result (LacksPlace (file_room self.old name.now) bytes.now (file_of self.old name.now)) }
         ensures others { (other : List ℕ) → other ≢ name.now → file_of self.new other ≡ file_of self.old other }
         ensures unchanged { OnErr result ((other : List ℕ) → file_of self.new other ≡ file_of self.old other) }
         ensures rest { KeepsAllButFiles self.old self.new }
     {
-        let Ok(copy) = bytes.to_vec(self.alloc) else {
-            return Err(NoMemory);
-        };
-        if set_file(self.alloc, &mut self.files, name, copy) {
+        if put_file(self.alloc, &mut self.files, name, bytes) {
             Ok(())
         } else {
             Err(NoMemory)
@@ -115,6 +117,8 @@ impl Host for MemHost {
         let result = load_bytes(&self.files, listed, name, max, into);
         if matches!(result, Err(LoadFail::Failed)) {
             note(&mut self.faults, &mut self.blame, Deed::Load, name);
+        } else if matches!(result, Err(LoadFail::NoMemory)) {
+            self.lacks = self.lacks.saturating_add(1);
         }
         result
     }

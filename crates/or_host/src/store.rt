@@ -1,8 +1,8 @@
 // Files and texts in memory: how they are read, made and grown, and what a call that is to fail leaves of them.
-ghost use Rattle.std.specs.Prelude.{◌≡◌, ◌≢◌, ◌++◌, [], List, ℕ, None, Some, IsTrue, IsFalse, vec_capacity};
+ghost use Rattle.std.specs.Prelude.{◌≡◌, ◌≢◌, ◌≤◌, ◌++◌, [], List, ℕ, None, Some, IsTrue, IsFalse, length, vec_capacity};
 ghost use Rattle.or_host.specs.Store.{content_of, room_of};
 ghost use Rattle.or_host.specs.Bytes.{AddsPrefix, AddsWhereRoom};
-ghost use Rattle.or_host.specs.Failing.{LoadsBytes, LoadsListed, AppendsListed, GrowsListed, failed_part};
+ghost use Rattle.or_host.specs.Failing.{LoadsBytes, LoadsListed, AppendsListed, GrowsListed, LacksPlace, failed_part};
 
 use crate::LoadFail;
 use std::alloc::Global;
@@ -29,8 +29,63 @@ pub(crate) fn load_bytes(
     }
 }
 
+// Makes the name hold these bytes, or changes nothing. It takes no memory where the file is there and has room for them.
+pub(crate) fn put_file(
+    alloc: Global,
+    files: &mut BTreeMap<String, Vec<u8>>,
+    name: &str,
+    bytes: &[u8],
+) -> bool
+    ensures own { IsTrue result → content_of files.new name.now ≡ Some bytes.now }
+    ensures others { (other : List ℕ) → other ≢ name.now → content_of files.new other ≡ content_of files.old other }
+    ensures unchanged { IsFalse result → (other : List ℕ) → content_of files.new other ≡ content_of files.old other }
+    ensures full { IsFalse result → LacksPlace (room_of files.old name.now) bytes.now (content_of files.old name.now) }
+{
+    if has_room(files, name, bytes) {
+        refill_file(files, name, bytes);
+        return true;
+    }
+    let Ok(copy) = bytes.to_vec(alloc) else {
+        return false;
+    };
+    set_file(alloc, files, name, copy)
+}
+
+// Whether a name is there, and its file has room for these bytes.
+fn has_room(files: &BTreeMap<String, Vec<u8>>, name: &str, bytes: &[u8]) -> bool
+    ensures place { IsTrue result → length bytes.now ≤ room_of files.now name.now }
+    ensures there { IsTrue result → content_of files.now name.now ≢ None }
+    ensures full { IsFalse result → LacksPlace (room_of files.now name.now) bytes.now (content_of files.now name.now) }
+{
+    match files.get(name) {
+        Some(file) => bytes.len() <= file.capacity(),
+        None => false,
+    }
+}
+
+// Makes a name that is there hold these bytes, for which its file has room.
+fn refill_file(files: &mut BTreeMap<String, Vec<u8>>, name: &str, bytes: &[u8])
+    requires place { length bytes.now ≤ room_of files.old name.now }
+    requires there { content_of files.old name.now ≢ None }
+    ensures own { content_of files.new name.now ≡ Some bytes.now }
+    ensures others { (other : List ℕ) → other ≢ name.now → content_of files.new other ≡ content_of files.old other }
+{
+    if let Some(file) = files.get_mut(name) {
+        refill(file, bytes);
+    }
+}
+
+// Makes a list these bytes, for which it has room.
+fn refill(list: &mut Vec<u8>, bytes: &[u8])
+    requires { length bytes.now ≤ vec_capacity list.old }
+    ensures { list.new.items ≡ bytes.now }
+{
+    list.clear();
+    let _ = list.extend_from_slice(bytes);
+}
+
 // Makes the name hold these bytes, or changes nothing.
-pub(crate) fn set_file(
+fn set_file(
     alloc: Global,
     files: &mut BTreeMap<String, Vec<u8>>,
     name: &str,

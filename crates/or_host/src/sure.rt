@@ -16,6 +16,7 @@ use crate::{Failed, Host, LoadFail};
 #[derive(Drop)]
 pub struct SureHost {
     files: Vec<(String, Vec<u8>)>,
+    lacks: u64,
 }
 
 impl SureHost {
@@ -25,7 +26,7 @@ impl SureHost {
     pub fn new(files: Vec<(String, Vec<u8>)>) -> Self
         ensures { (name : List ℕ) → sure_files result name ≡ given files.items name }
     {
-        SureHost { files }
+        SureHost { files, lacks: 0 }
     }
 }
 
@@ -47,7 +48,13 @@ impl Host for SureHost {
         ensures keeps { Keeps self.old self.new }
     {
         match find(&self.files, name) {
-            Some(bytes) => load_whole(bytes, max, into),
+            Some(bytes) => {
+                let answer = load_whole(bytes, max, into);
+                if matches!(answer, Err(LoadFail::NoMemory)) {
+                    self.lacks = self.lacks.saturating_add(1);
+                }
+                answer
+            }
             None => Ok(()),
         }
     }

@@ -6,3 +6,5 @@ pub mod Recorded
 pub mod Replayed
 pub mod Statuses
 pub mod Verdicts
+pub mod Short
+pub mod OneReplay

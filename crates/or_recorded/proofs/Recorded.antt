@@ -9,7 +9,9 @@ use Rattle.or_sched.specs.declared.recording.RecFault.{RecFault}
 use Rattle.or_sched.specs.declared.recording.RecFault.TheVariants.{BadHead, BadRun, Short, NoMemory}
 use Rattle.or_sched.specs.declared.reader.Reader.{Reader}
 use Rattle.or_sched.specs.Recording.{IsRecording}
-use Rattle.or_sched.specs.Reading.{HasRead, Fed, FinishIs, IsWhole}
+use Rattle.or_sched.specs.declared.state.State.{State}
+use Rattle.or_sched.specs.declared.state.State.TheVariants.{Failed}
+use Rattle.or_sched.specs.Reading.{StateRead, HasRead, Fed, FinishIs, IsWhole}
 use Rattle.std.proofs.Common.{arith}
 use Rattle.std.proofs.lemmas.List.{take_all}
 use Rattle.or_words.specs.Settings.{ram_bytes}
@@ -19,7 +21,7 @@ use Rattle.or_replay.specs.Start.{start}
 use Rattle.or_replay.specs.Following.{IsFollowable, IsFollowed}
 use Rattle.or_recorded.specs.declared.checked.Recording.{Recording}
 use Rattle.or_recorded.specs.declared.checked.Checked.{Checked}
-use Rattle.or_recorded.specs.Checked.{TextFault, AreOfBlocks, IsOfRun, IsChecked, IsEndOf, LeadsToEnd, IsRunChecked}
+use Rattle.or_recorded.specs.Checked.{IsReadInPart, TextFault, AreOfBlocks, IsOfRun, IsChecked, IsEndOf, LeadsToEnd, IsRunChecked}
 
 -- the reader has been fed the whole text
 pub fed_whole : (old new : Reader) (text out_old out_new : List ℕ) (marks_old marks_new : List Mark) → HasRead old [] [] [] → out_old ≡ [] → marks_old ≡ []
@@ -38,12 +40,21 @@ pub marks_fit : (text : List ℕ) (head : Head) (turns : List ℕ) (marks : List
 marks_fit text head turns marks (inl is) = inl is.1
 marks_fit text head turns marks (inr is) = inr is.are_marks.whole_blocks
 
+-- a reader that found no memory has read the whole head of a recording, and no fault
+read_in_part : (head : Option Head) (state : State) (text turns : List ℕ) (marks : List Mark) → StateRead head state text turns marks → state ≡ Failed NoMemory
+    → IsReadInPart text
+read_in_part head state text turns marks read is =
+    let failed = subst (λ (s : State). StateRead head s text turns marks) is read in
+    let behind = failed.1 in
+    record { front = behind.front; is_front = behind.is_front; begins = behind.begins; lines = behind.lines }
+
 -- the fault at the end is that of the text
-pub fault_of_text : (reader : Reader) (text turns : List ℕ) (marks : List Mark) (fault : RecFault) → FinishIs reader text turns marks (Err fault) → TextFault text fault
-fault_of_text reader text turns marks (BadHead line) is = record { place = is.1.place; at = is.1.is; name = is.1.name }
-fault_of_text reader text turns marks (BadRun at) is = record { place = is.1.place; at = is.1.is; name = is.1.name }
-fault_of_text reader text turns marks Short is = is
-fault_of_text reader text turns marks NoMemory is = tt
+pub fault_of_text : (reader : Reader) (text turns : List ℕ) (marks : List Mark) (fault : RecFault) → HasRead reader text turns marks
+    → FinishIs reader text turns marks (Err fault) → TextFault text fault
+fault_of_text reader text turns marks (BadHead line) read is = record { place = is.1.place; at = is.1.is; name = is.1.name }
+fault_of_text reader text turns marks (BadRun at) read is = record { place = is.1.place; at = is.1.is; name = is.1.name }
+fault_of_text reader text turns marks Short read is = is
+fault_of_text reader text turns marks NoMemory read is = read_in_part reader.head reader.state text turns marks read is
 
 pub whole_head : (kept head : Option Head) (found : Head) (text turns : List ℕ) (marks : List Mark) → IsWhole kept text turns marks → head ≡ kept → head ≡ Some found
     → IsRecording text found turns marks

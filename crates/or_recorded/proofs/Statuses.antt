@@ -18,7 +18,7 @@ use Rattle.or_sched.specs.declared.recording.RecFault.{RecFault}
 use Rattle.or_sched.specs.declared.recording.RecFault.TheVariants.{BadHead, BadRun, Short, NoMemory as NoMemoryToRead}
 use Rattle.or_command_line.specs.Names.{Recorded}
 use Rattle.or_recorded.specs.declared.checked.RunFault.{RunFault}
-use Rattle.or_recorded.specs.declared.checked.RunFault.TheVariants.{Text, Image, Input, Elf, Turns, NoMemory}
+use Rattle.or_recorded.specs.declared.checked.RunFault.TheVariants.{Text, NoMemoryForText, Image, Input, Elf, Turns, NoMemory}
 use Rattle.or_recorded.specs.Replay.{schedule_told, schedule_check, text_check, turn_detail, fault_check, RecordedVerdict}
 
 -- the status of a check that is given
@@ -43,6 +43,7 @@ of_fault names (Image digests) check told = of_schedule names.schedule (detail.I
 of_fault names (Input digests) check told = of_schedule names.schedule (detail.Input digests) check told
 of_fault names (Elf fault) check told = of_image names.image fault check told
 of_fault names (Turns fault) check told = of_schedule names.schedule (turn_detail fault) check told
+of_fault names NoMemoryForText check told = absurd (let b : ⊥ = cc in b)
 of_fault names NoMemory check told = absurd (let b : ⊥ = cc in b)
 
 -- none of them is 2

@@ -24,7 +24,7 @@ use Rattle.or_replay.specs.Following.{Followed, IsFollowable}
 use Rattle.or_replay.proofs.Followable.{followed_exactly}
 use Rattle.or_replay.proofs.FirstRefusal.{followed_in_one_way}
 use Rattle.or_recorded.specs.declared.checked.RunFault.{RunFault}
-use Rattle.or_recorded.specs.declared.checked.RunFault.TheVariants.{Text, Image, Input, Elf, Turns, NoMemory}
+use Rattle.or_recorded.specs.declared.checked.RunFault.TheVariants.{Text, NoMemoryForText, Image, Input, Elf, Turns, NoMemory}
 use Rattle.or_recorded.specs.Checked.{IsTextFault, IsFirstFault, IsOtherImage, IsOtherInput, IsOfRun, IsImageFault, IsTurnFault, IsChecked}
 use Rattle.or_recorded.specs.Replay.{fault_check, BytesJudged}
 use Rattle.or_recorded.proofs.Recorded.{marks_fit}
@@ -143,6 +143,7 @@ module _ (image input text : List ℕ) where
       sound_is head first.head turns first.turns marks first.marks fault checked.of_run.text first.of_run.text checked.sound first.fault_is
   sound_or_refused head turns marks names (Turns fault) check checked first told = no_turn_fault head turns marks fault checked first
   sound_or_refused head turns marks names NoMemory check checked first told = let b : ⊥ = cc in b
+  sound_or_refused head turns marks names NoMemoryForText check checked first told = let b : ⊥ = cc in b
 
   image_first : (digests : Digests) (head : Head) (turns : List ℕ) (marks : List Mark) → IsOtherImage image text digests → IsRecording text head turns marks → head.image ≡ sha256 image → ⊥
   image_first digests head turns marks is whole same = image_is head is.head turns is.turns marks is.marks whole is.text same is.differ
@@ -156,7 +157,7 @@ module _ (image input text : List ℕ) where
 
   -- the first check that fails is one
   one_check : (names : Recorded) (fault other : RunFault) (check : FailedCheck) → IsFirstFault image input text fault → IsFirstFault image input text other
-      → fault_check names fault ≡ Some check → fault_check names other ≡ Some check ⊎ (other ≡ NoMemory)
+      → fault_check names fault ≡ Some check → fault_check names other ≡ Some check ⊎ (fault_check names other ≡ None)
   one_check names (Text fault) (Text other) check is also told = inl (ap (λ f. fault_check names (Text f)) (sym (one_text fault other is also)) ∙ told)
   one_check names (Text fault) (Image digests) check is also told = absurd (no_recording fault also.head also.turns also.marks is also.text)
   one_check names (Text fault) (Input digests) check is also told = absurd (no_recording fault also.head also.turns also.marks is also.text)
@@ -183,17 +184,23 @@ module _ (image input text : List ℕ) where
   one_check names (Turns turn) (Elf elf) check is also told = absurd (elf_first elf turn also is)
   one_check names (Turns turn) (Turns other) check is also told = inl (ap (λ (f : TurnFault). fault_check names (Turns f)) (sym (one_turns turn other is also)) ∙ told)
   one_check names NoMemory other check is also told = absurd (let b : ⊥ = cc in b)
+  one_check names NoMemoryForText other check is also told = absurd (let b : ⊥ = cc in b)
   one_check names (Text fault) NoMemory check is also told = inr refl
+  one_check names (Text fault) NoMemoryForText check is also told = inr refl
   one_check names (Image digests) NoMemory check is also told = inr refl
+  one_check names (Image digests) NoMemoryForText check is also told = inr refl
   one_check names (Input digests) NoMemory check is also told = inr refl
+  one_check names (Input digests) NoMemoryForText check is also told = inr refl
   one_check names (Elf elf) NoMemory check is also told = inr refl
+  one_check names (Elf elf) NoMemoryForText check is also told = inr refl
   one_check names (Turns turn) NoMemory check is also told = inr refl
+  one_check names (Turns turn) NoMemoryForText check is also told = inr refl
 
-  checks_agree : (names : Recorded) (other : RunFault) (check also_check : FailedCheck) → (fault_check names other ≡ Some check) ⊎ (other ≡ NoMemory)
+  checks_agree : (names : Recorded) (other : RunFault) (check also_check : FailedCheck) → (fault_check names other ≡ Some check) ⊎ (fault_check names other ≡ None)
       → fault_check names other ≡ Some also_check → check ≡ also_check
   checks_agree names other check also_check (inl told) also = let e : Some check ≡ Some also_check = sym told ∙ also in cc
   checks_agree names other check also_check (inr none) also =
-      absurd (some_none (fault_check names other) also_check (ap (fault_check names) none) also)
+      absurd (some_none (fault_check names other) also_check none also)
 
 -- the checks of a recorded run find one thing
 pub one_verdict : (names : Recorded) (bytes : RecordedBytes) (found other : Option FailedCheck) → BytesJudged names bytes found → BytesJudged names bytes other → found ≡ other

@@ -1,5 +1,5 @@
 -- A recorded run: an image, a console's input and a recording of a run of them. The first of its checks that fails.
-use Rattle.std.specs.Prelude.{◌≡◌, ◌≢◌, ◌⊎◌, ◌/◌, ℕ, List, [], Some, None, Err, take, length}
+use Rattle.std.specs.Prelude.{◌≡◌, ◌≢◌, ◌⊎◌, ◌≤◌, ◌/◌, ℕ, List, [], Some, None, Err, take, length}
 use Rattle.sha2.specs.Sha256.{sha256}
 use Rattle.or_words.specs.Settings.{ram_bytes}
 use Rattle.or_words.specs.declared.limits.TheConstants.{BLOCK}
@@ -9,8 +9,8 @@ use Rattle.or_sched.specs.declared.recording.Head.{Head}
 use Rattle.or_sched.specs.declared.recording.Mark.{Mark}
 use Rattle.or_sched.specs.declared.recording.RecFault.{RecFault}
 use Rattle.or_sched.specs.declared.recording.RecFault.TheVariants.{BadHead, BadRun, Short, NoMemory as NoMemoryToRead}
-use Rattle.or_sched.specs.Recording.{IsRecording, FaultAt, fault_name}
-use Rattle.or_sched.specs.Reading.{IsShort}
+use Rattle.or_sched.specs.Recording.{IsRecording, Begins, FaultAt, line_feeds, fault_name}
+use Rattle.or_sched.specs.Reading.{IsFront, IsShort}
 use Rattle.or_model.specs.Core.{Core}
 use Rattle.or_model.specs.Turn.{Board, replay}
 use Rattle.or_bus.specs.State.{BusState}
@@ -19,12 +19,10 @@ use Rattle.or_replay.specs.Start.{start}
 use Rattle.or_replay.specs.Board.{IsBoard}
 use Rattle.or_replay.specs.declared.follow.TurnFault.{TurnFault}
 use Rattle.or_replay.specs.Following.{Followed, IsFollowable}
-use Rattle.or_replay.specs.declared.opening.OpenFault.{OpenFault}
-use Rattle.or_replay.specs.declared.opening.OpenFault.TheVariants.{Elf as OpenElf, NoMemory as NoMemoryToOpen}
 use Rattle.or_recorded.specs.declared.checked.Recording.{Recording}
 use Rattle.or_recorded.specs.declared.checked.Checked.{Checked}
 use Rattle.or_recorded.specs.declared.checked.RunFault.{RunFault}
-use Rattle.or_recorded.specs.declared.checked.RunFault.TheVariants.{Text, Image, Input, Elf, Turns, NoMemory}
+use Rattle.or_recorded.specs.declared.checked.RunFault.TheVariants.{Text, NoMemoryForText, Image, Input, Elf, Turns, NoMemory}
 
 -- the text is no recording: its first fault has this name, or it ends too early
 pub record IsTextFault (recording : List ℕ) (fault : RecFault) : Type 0 where
@@ -32,11 +30,18 @@ pub record IsTextFault (recording : List ℕ) (fault : RecFault) : Type 0 where
   pub at : FaultAt recording place
   pub name : fault ≡ fault_name (take place recording)
 
+-- memory ran out behind a beginning of the text, which has the whole head of a recording and no fault
+pub record IsReadInPart (recording : List ℕ) : Type 0 where
+  pub front : List ℕ
+  pub is_front : IsFront front recording
+  pub begins : Begins front
+  pub lines : 4 ≤ line_feeds front
+
 abbrev pub TextFault : List ℕ → RecFault → Type 0
 TextFault recording (BadHead line) = IsTextFault recording (BadHead line)
 TextFault recording (BadRun at) = IsTextFault recording (BadRun at)
 TextFault recording Short = IsShort recording
-TextFault recording NoMemoryToRead = Unit {0}
+TextFault recording NoMemoryToRead = IsReadInPart recording
 
 -- the recording is one of a run of another image
 pub record IsOtherImage (image recording : List ℕ) (digests : Digests) : Type 0 where
@@ -87,15 +92,29 @@ pub record IsTurnFault (image input recording : List ℕ) (fault : TurnFault) : 
   pub sound : elf_fault image (ram_bytes head.config) ≡ None
   pub refused : IsRefusedBy (start head.config image input) turns marks fault
 
--- the first check that fails, in the order of these cases; or memory ran out
+-- the recording is one of a run of this image with this input, and the image has no fault
+pub record IsSoundRun (image input recording : List ℕ) : Type 0 where
+  pub head : Head
+  pub turns : List ℕ
+  pub marks : List Mark
+  pub of_run : IsOfRun image input recording head turns marks
+  pub sound : elf_fault image (ram_bytes head.config) ≡ None
+
+-- The first check that fails, in the order of these cases. Memory runs out while the text is read, or behind the checks of the
+-- digests and of the image, which take none.
 abbrev pub IsFirstFault : List ℕ → List ℕ → List ℕ → RunFault → Type 0
 IsFirstFault image input recording (Text NoMemoryToRead) = ⊥
 IsFirstFault image input recording (Text fault) = TextFault recording fault
+IsFirstFault image input recording NoMemoryForText = IsReadInPart recording
 IsFirstFault image input recording (Image digests) = IsOtherImage image recording digests
 IsFirstFault image input recording (Input digests) = IsOtherInput image input recording digests
 IsFirstFault image input recording (Elf fault) = IsImageFault image input recording fault
 IsFirstFault image input recording (Turns fault) = IsTurnFault image input recording fault
-IsFirstFault image input recording NoMemory = Unit {0}
+IsFirstFault image input recording NoMemory = IsSoundRun image input recording
+
+-- where memory ran out
+abbrev pub RunsShort : List ℕ → List ℕ → List ℕ → Type 0
+RunsShort image input recording = IsReadInPart recording ⊎ IsSoundRun image input recording
 
 -- no check fails: the recording is one of a run of this image with this input, and leads from the start to an end
 pub record IsChecked (image input recording : List ℕ) (head : Head) (turns : List ℕ) (marks : List Mark) : Type 0 where
@@ -129,8 +148,3 @@ pub record IsRunOpened (image input text : List ℕ) (run : Checked) : Type 0 wh
 pub record IsRunChecked (image input text : List ℕ) (run : Checked) : Type 0 where
   pub checked : IsChecked image input text run.recording.head run.recording.turns.items run.recording.marks.items
   pub ended : IsEndOf (start run.recording.head.config image input) run.recording.turns.items run.board.cores run.board.bus
-
--- why no board is opened
-abbrev pub IsOpenFault : List ℕ → ℕ → OpenFault → Type 0
-IsOpenFault image ram (OpenElf fault) = elf_fault image ram ≡ Some fault
-IsOpenFault image ram NoMemoryToOpen = Unit {0}

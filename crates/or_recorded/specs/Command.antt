@@ -5,15 +5,17 @@ use Rattle.or_sched.specs.declared.recording.Mark.{Mark}
 use Rattle.or_model.specs.Turn.{Board}
 use Rattle.or_command.specs.Writes.{File}
 use Rattle.or_command.specs.Ends.{FailedCheck}
+use Rattle.or_command.specs.Outcomes.{LacksMemory}
+use Rattle.or_host.specs.HostState.{HostState}
 use Rattle.or_replay.specs.Start.{start}
 use Rattle.or_recorded.specs.declared.checked.Recording.{Recording}
 use Rattle.or_recorded.specs.declared.checked.RunFault.{RunFault}
 use Rattle.or_recorded.specs.declared.refused.OwnFault.{OwnFault}
 use Rattle.or_recorded.specs.declared.refused.Fault.{Fault}
 use Rattle.or_recorded.specs.declared.refused.Fault.TheVariants.{OfRun, Own}
-use Rattle.or_recorded.specs.Checked.{IsChecked, IsFirstFault}
+use Rattle.or_recorded.specs.Checked.{IsChecked, IsFirstFault, RunsShort}
 use Rattle.or_recorded.specs.Replay.{fault_check}
-use Rattle.or_recorded.specs.Files.{Names, Files, files_in, outs_of}
+use Rattle.or_recorded.specs.Files.{Names, Files, loads, files_in, outs_of}
 use Rattle.or_recorded.specs.Refused.{own_check, Fails}
 
 -- a recorded run: the bytes of its files, and what its recording tells
@@ -40,6 +42,14 @@ pub record FailsToRun (names : Names) (files : Files) (check : FailedCheck) : Ty
   pub fault : RunFault
   pub first : IsFirstFault files.image files.input files.recording fault
   pub told : fault_check names.run fault ≡ Some check
+
+-- memory ran out behind the loads of these files
+abbrev pub FilesRunShort : Names → List (List ℕ) → Type 0
+FilesRunShort names read = RunsShort (files_in names read).image (files_in names read).input (files_in names read).recording
+
+-- what a command on a recorded run leaves where memory ran out
+abbrev pub CommandLacks : Names → HostState → HostState → Type 0
+CommandLacks names = LacksMemory (loads names) (FilesRunShort names)
 
 -- a command that makes no check of its own
 abbrev pub no_fault : Run → Option OwnFault

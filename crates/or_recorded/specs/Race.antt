@@ -11,7 +11,8 @@ use Rattle.or_race.specs.Text.{RaceText}
 use Rattle.or_recorded.specs.declared.refused.OwnFault.{OwnFault}
 use Rattle.or_recorded.specs.declared.refused.OwnFault.TheVariants.{Symbols}
 use Rattle.or_recorded.specs.Files.{run_alone, loads}
-use Rattle.or_recorded.specs.Command.{Run, start_of, Verdict, Writes}
+use Rattle.or_host.specs.HostState.{HostState}
+use Rattle.or_recorded.specs.Command.{Run, start_of, Verdict, Writes, CommandLacks}
 use Rattle.or_recorded.specs.Events.{events_of}
 
 -- the symbols of an image by which a report tells places, where that is asked for
@@ -37,6 +38,10 @@ race_loads names = loads (run_alone names)
 -- the checks of a recorded run, and of its image's symbols where places are told: the first that fails, or none
 abbrev pub RaceVerdict : Recorded → RaceOptions → List (List ℕ) → Option FailedCheck → Type 0
 RaceVerdict names options read found = Verdict (race_fault options.places) (MakesRaces options.locks options.places) (run_alone names) read found
+
+-- what it leaves where memory ran out
+abbrev pub RaceLacks : Recorded → HostState → HostState → Type 0
+RaceLacks names = CommandLacks (run_alone names)
 
 -- what a race report on these files writes: no file, and its text to standard output
 abbrev pub RaceWrites : Recorded → RaceOptions → List (List ℕ) → List File → List ℕ → Type 0

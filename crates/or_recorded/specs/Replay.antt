@@ -5,6 +5,7 @@ use Rattle.or_sched.specs.declared.recording.Mark.{Mark}
 use Rattle.or_sched.specs.declared.recording.RecFault.{RecFault}
 use Rattle.or_sched.specs.declared.recording.RecFault.TheVariants.{BadHead, BadRun, Short, NoMemory as NoMemoryToRead}
 use Rattle.or_model.specs.Turn.{Board, replay}
+use Rattle.or_host.specs.HostState.{HostState}
 use Rattle.or_command.specs.declared.refusal.ScheduleDetail.{ScheduleDetail}
 use Rattle.or_command.specs.declared.refusal.ScheduleDetail.TheVariants as detail
 use Rattle.or_command.specs.Lines.{schedule_line}
@@ -12,6 +13,7 @@ use Rattle.or_command.specs.Sentences.{detail_sentence}
 use Rattle.or_command.specs.Loads.{Load}
 use Rattle.or_command.specs.Writes.{File}
 use Rattle.or_command.specs.Ends.{FailedCheck}
+use Rattle.or_command.specs.Outcomes.{LacksMemory}
 use Rattle.or_command_line.specs.Names.{Recorded}
 use Rattle.or_command_image.specs.Loaded.{recorded_loads, image_told, RecordedBytes, recorded_bytes, is_no_input}
 use Rattle.or_replay.specs.Start.{start}
@@ -19,8 +21,8 @@ use Rattle.or_replay.specs.Report.{report_text}
 use Rattle.or_replay.specs.declared.follow.TurnFault.{TurnFault}
 use Rattle.or_replay.specs.declared.follow.TurnFault.TheVariants.{NoCore, Stopped, Running, Writes, Console}
 use Rattle.or_recorded.specs.declared.checked.RunFault.{RunFault}
-use Rattle.or_recorded.specs.declared.checked.RunFault.TheVariants.{Text, Image, Input, Elf, Turns, NoMemory}
-use Rattle.or_recorded.specs.Checked.{IsFirstFault, IsChecked}
+use Rattle.or_recorded.specs.declared.checked.RunFault.TheVariants.{Text, NoMemoryForText, Image, Input, Elf, Turns, NoMemory}
+use Rattle.or_recorded.specs.Checked.{IsFirstFault, IsChecked, RunsShort}
 
 abbrev pub replay_loads : Recorded → List Load
 replay_loads names = recorded_loads names.image names.input names.schedule
@@ -52,6 +54,7 @@ turn_detail (Console turn kept found) = detail.TurnConsole turn kept found
 -- the status and the line of a fault
 abbrev pub fault_check : Recorded → RunFault → Option FailedCheck
 fault_check names (Text fault) = text_check names.schedule fault
+fault_check names NoMemoryForText = None
 fault_check names (Image digests) = schedule_check names.schedule (detail.Image digests)
 fault_check names (Input digests) = schedule_check names.schedule (detail.Input digests)
 fault_check names (Elf fault) = Some (image_told names.image fault)
@@ -76,6 +79,14 @@ BytesJudged names bytes (Some check) = IsRefused names bytes check
 -- the checks of a recorded run: the first that fails, or none
 abbrev pub RecordedVerdict : Recorded → List (List ℕ) → Option FailedCheck → Type 0
 RecordedVerdict names files found = BytesJudged names (bytes_in names files) found
+
+-- memory ran out behind the loads of a recorded run's files
+abbrev pub FilesRunShort : Recorded → List (List ℕ) → Type 0
+FilesRunShort names files = RunsShort (bytes_in names files).image (bytes_in names files).input (bytes_in names files).recording
+
+-- what a replay leaves where memory ran out
+abbrev pub ReplayLacks : Recorded → HostState → HostState → Type 0
+ReplayLacks names = LacksMemory (replay_loads names) (FilesRunShort names)
 
 -- the report and the console of a recorded run
 pub record IsReplayed (bytes : RecordedBytes) (report console : List ℕ) : Type 0 where

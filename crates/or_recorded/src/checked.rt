@@ -8,13 +8,14 @@ ghost use Rattle.or_elf.specs.Fault.{elf_fault};
 ghost use Rattle.or_sched.specs.Recording.{IsRecording};
 ghost use Rattle.or_model.specs.Turn.{Board as BoardModel};
 ghost use Rattle.or_replay.specs.Start.{start};
+ghost use Rattle.or_replay.specs.Opening.{FailsToOpen};
 ghost use Rattle.or_replay.specs.Board.{IsBoard};
 ghost use Rattle.or_replay.specs.Following.{IsFollowed, IsFollowable};
-ghost use Rattle.or_recorded.specs.Checked.{TextFault, IsFirstFault, IsOfRun, IsOpenFault, IsTurnFault, AreOfBlocks, IsRunOpened, IsRunChecked};
+ghost use Rattle.or_recorded.specs.Checked.{TextFault, IsFirstFault, IsOfRun, IsTurnFault, AreOfBlocks, IsRunOpened, IsRunChecked};
 ghost use Rattle.or_recorded.specs.declared.checked.Checked.{Checked as CheckedModel};
 
 use or_command::Digests;
-use or_command_image::RecordedFiles;
+use or_command_image::{RecordedFiles, input_for_board};
 use or_elf::ElfFault;
 use or_replay::{Board, OpenFault, TurnFault, Unwatched, Watcher};
 use or_sched::{Head, Mark, Reader, RecFault};
@@ -27,6 +28,8 @@ use std::alloc::Global;
 pub enum RunFault {
     /// The recording's text, which ends too early or has this fault; never NoMemory.
     Text(RecFault),
+    /// Memory ran out while the text was read.
+    NoMemoryForText,
     /// The digest of the image.
     Image(Digests),
     /// The digest of the input.
@@ -35,7 +38,7 @@ pub enum RunFault {
     Elf(ElfFault),
     /// The turns can't be followed.
     Turns(TurnFault),
-    /// Memory ran out, and no check failed before.
+    /// Memory ran out behind the checks of the digests and of the image.
     NoMemory,
 }
 
@@ -97,7 +100,7 @@ pub(crate) fn open_run(
 {
     match read(alloc, text) {
         Ok(recording) => check_digests(alloc, recording, image, input),
-        Err(RecFault::NoMemory) => Err(RunFault::NoMemory),
+        Err(RecFault::NoMemory) => Err(RunFault::NoMemoryForText),
         Err(fault) => Err(RunFault::Text(fault)),
     }
 }
@@ -176,7 +179,7 @@ fn check_image(
     }
 }
 
-/// The board at the start of a run. Errors: Elf exactly where the image has this fault, memory aside; NoMemory.
+/// The board at the start of a run. Errors: Elf exactly where the image has this fault; NoMemory.
 pub fn open_board(
     alloc: Global,
     config: &Config,
@@ -187,14 +190,14 @@ pub fn open_board(
     requires fits { Fits config.now }
     ensures board { MatchResult result
         (λ board. (elf_fault image.now (ram_bytes config.now) ≡ None) × IsBoard board.cores board.bus (start config.now image.now input.now))
-        (λ fault. IsOpenFault image.now (ram_bytes config.now) fault) }
+        (λ fault. FailsToOpen image.now (ram_bytes config.now) fault) }
     ensures config { IfOk result (λ board. board.config ≡ config.now) }
 {
-    let Ok(bytes) = Vec::from_slice(alloc, input) else {
-        return Err(OpenFault::NoMemory);
-    };
-    match Board::open(alloc, config, image, bytes) {
-        Ok(board) => Ok(board),
+    match input_for_board(alloc, config, image, input) {
+        Ok(bytes) => match Board::open(alloc, config, image, bytes) {
+            Ok(board) => Ok(board),
+            Err(fault) => Err(fault),
+        },
         Err(fault) => Err(fault),
     }
 }

@@ -8,8 +8,8 @@ ghost use Rattle.or_bus.specs.State.{BusState};
 ghost use Rattle.or_model.specs.Core.{Core as CoreModel};
 ghost use Rattle.or_command.specs.Leaves.{Silent};
 ghost use Rattle.or_command.specs.Ends.{end_of};
-ghost use Rattle.or_command.specs.Finishing.{WriteEnds, GoesOn};
-ghost use Rattle.or_command.specs.Outcomes.{OutcomeBy, LeavesAll};
+ghost use Rattle.or_command.specs.Finishing.{WriteEnds, GoesOn, IfNoMemory};
+ghost use Rattle.or_command.specs.Outcomes.{OutcomeBy};
 ghost use Rattle.or_command.specs.Loads.{bytes_of};
 ghost use Rattle.or_replay.specs.Board.{IsBoard};
 ghost use Rattle.or_replay.specs.Start.{start};
@@ -17,12 +17,12 @@ ghost use Rattle.or_recorded.specs.declared.refused.OwnFault.{OwnFault as OwnFau
 ghost use Rattle.or_recorded.specs.Checked.{IsRunOpened, IsRunChecked};
 ghost use Rattle.or_recorded.specs.Files.{names_of, bytes_of_files, AreNames, loads, files_in, outs_of};
 ghost use Rattle.or_recorded.specs.Refused.{Fails};
-ghost use Rattle.or_recorded.specs.Command.{Run, run_of, start_of, Verdict, Writes, IsMade, IsFault};
+ghost use Rattle.or_recorded.specs.Command.{Run, run_of, start_of, Verdict, Writes, FilesRunShort, CommandLacks, IsMade, IsFault};
 
 use crate::checked::{Checked, RunFault, follow, open_run};
 use crate::files::{Files, Names, load, named};
 use crate::refused::{Fault, OwnFault, refuse_fault};
-use or_command::{LoadStop, Outcome, Output, write_outputs};
+use or_command::{LoadStop, Loaded, Outcome, Output, write_outputs};
 use or_host::Host;
 use or_replay::Watcher;
 use or_words::{Config, NoMemory};
@@ -160,6 +160,7 @@ fn finish<'a, C: RecordedCommand, H: Host>(
     requires script { length (files_in (names_of names.now) (bytes_of read.now)).script ≤ SCRIPT_LIMIT }
     ensures outcome { GoesOn (Verdict (C.fault command.now) (C.Makes command.now) (names_of names.now)) (Writes (C.fault command.now) (C.Makes command.now) (names_of names.now))
         (bytes_of read.now) (end_of result) (H.state host.old) (H.state host.new) }
+    ensures passed { IfNoMemory (end_of result) (FilesRunShort (names_of names.now) (bytes_of read.now)) }
     ensures silent { Silent (H.state host.old) (H.state host.new) }
 {
     match make_texts(alloc, command, named(names, read)) {
@@ -178,10 +179,10 @@ pub fn carry_out<'a, C: RecordedCommand, H: Host>(
 ) -> Outcome<'a>
     requires names { AreNames (names_of names.now) }
     ensures outcome { OutcomeBy (loads (names_of names.now)) (Verdict (C.fault command.now) (C.Makes command.now) (names_of names.now))
-        (Writes (C.fault command.now) (C.Makes command.now) (names_of names.now)) LeavesAll (end_of result) (H.state host.old) (H.state host.new) }
+        (Writes (C.fault command.now) (C.Makes command.now) (names_of names.now)) (CommandLacks (names_of names.now)) (end_of result) (H.state host.old) (H.state host.new) }
     ensures silent { Silent (H.state host.old) (H.state host.new) }
 {
-    let mut read = Vec::new(alloc);
+    let mut read = Loaded::new_in(alloc);
     match load(alloc, names, host, &mut read) {
         Ok(()) => finish(alloc, names, command, read.as_slice(), host),
         Err(LoadStop::Unread(name)) => Outcome::Unread(name),

@@ -1,10 +1,10 @@
 //! The files of a command on a recorded run.
-ghost use Rattle.std.specs.Prelude.{◌≡◌, MatchResult};
+ghost use Rattle.std.specs.Prelude.{◌≡◌, [], MatchResult};
 ghost use Rattle.or_command.specs.Leaves.{Silent};
 ghost use Rattle.or_command.specs.Loads.{bytes_of, LoadsAll, LoadsSome};
 ghost use Rattle.or_recorded.specs.Files.{names_of, AreNames, loads, files_in};
 
-use or_command::{Input, LoadStop, load_files};
+use or_command::{Input, LoadStop, Loaded, load_files};
 use or_command_image::file_at;
 use or_command_line::Recorded;
 use or_host::Host;
@@ -30,14 +30,15 @@ pub struct Files<'f> {
     pub script: &'f [u8],
 }
 
-/// Loads the image, the input where its name is not `-`, the recording, and the script where there is one.
+/// Loads the image, the input where its name is not `-`, the recording, and the script where there is one, into an empty list.
 pub(crate) fn load<'a, H: Host>(
     alloc: Global,
     names: &Names<'a>,
     host: &mut H,
-    into: &mut Vec<Vec<u8>>,
+    into: &mut Loaded,
 ) -> Result<(), LoadStop<'a>>
     requires names { AreNames (names_of names.now) }
+    requires empty { into.old.items ≡ [] }
     ensures files { MatchResult result
         (λ _. LoadsAll (loads (names_of names.now)) (bytes_of into.old.items) (bytes_of into.new.items) (H.state host.old) (H.state host.new))
         (λ stop. LoadsSome (loads (names_of names.now)) stop (bytes_of into.old.items) (bytes_of into.new.items) (H.state host.old) (H.state host.new)) }

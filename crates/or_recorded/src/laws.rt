@@ -5,7 +5,7 @@ ghost use Rattle.or_command.specs.Ends.{FailedCheck};
 ghost use Rattle.or_command_line.specs.declared.RaceOptions.{RaceOptions};
 ghost use Rattle.or_command_line.specs.Names.{recorded_names};
 ghost use Rattle.or_recorded.specs.Race.{RaceWrites};
-ghost use Rattle.or_recorded.specs.Replay.{RecordedVerdict};
+ghost use Rattle.or_recorded.specs.Replay.{RecordedVerdict, ReplayWrites};
 
 use or_command_line::Recorded;
 
@@ -15,6 +15,15 @@ pub fn files_have_one_verdict(names: &Recorded<'_>)
         → RecordedVerdict (recorded_names names.now) files other → found ≡ other }
 {
     let _ = names;
+}
+
+/// The files of a recorded run have one replay.
+pub fn files_have_one_replay(names: &Recorded<'_>, report: &str)
+    ensures { (files : List (List ℕ)) (outs others : List File) (console other : List ℕ) → ReplayWrites (recorded_names names.now) report.now files outs console
+        → ReplayWrites (recorded_names names.now) report.now files others other → (outs ≡ others) × (console ≡ other) }
+{
+    let _ = names;
+    let _ = report;
 }
 
 /// The files of a recorded run have one race report.

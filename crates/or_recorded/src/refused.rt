@@ -112,7 +112,7 @@ pub fn refuse<'a>(files: &Recorded<'a>, fault: RunFault) -> Outcome<'a>
             why: fault.sentence(),
         }),
         RunFault::Turns(fault) => refuse_schedule(files.schedule, detail_of(fault)),
-        RunFault::NoMemory => Outcome::NoMemory,
+        RunFault::NoMemoryForText | RunFault::NoMemory => Outcome::NoMemory,
     }
 }
 

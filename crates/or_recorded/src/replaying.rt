@@ -5,17 +5,17 @@ ghost use Rattle.or_host.specs.HostState.{HostState};
 ghost use Rattle.or_host.specs.Calls.{IsName};
 ghost use Rattle.or_command.specs.Leaves.{Silent};
 ghost use Rattle.or_command.specs.Ends.{end_of};
-ghost use Rattle.or_command.specs.Finishing.{WriteEnds, GoesOn};
-ghost use Rattle.or_command.specs.Outcomes.{OutcomeBy, LeavesAll};
+ghost use Rattle.or_command.specs.Finishing.{WriteEnds, GoesOn, IfNoMemory};
+ghost use Rattle.or_command.specs.Outcomes.{OutcomeBy};
 ghost use Rattle.or_command.specs.Loads.{bytes_of};
 ghost use Rattle.or_command_line.specs.Names.{recorded_names, AreRecorded, IsReport};
 ghost use Rattle.or_command_image.specs.Loaded.{RecordedBytes};
 ghost use Rattle.or_recorded.specs.Checked.{IsRunChecked};
-ghost use Rattle.or_recorded.specs.Replay.{replay_loads, bytes_in, RecordedVerdict, IsReplayed, ReplayWrites};
+ghost use Rattle.or_recorded.specs.Replay.{replay_loads, bytes_in, RecordedVerdict, FilesRunShort, ReplayLacks, IsReplayed, ReplayWrites};
 
 use crate::checked::{Checked, check};
 use crate::refused::refuse;
-use or_command::{LoadStop, Outcome, Output, write_outputs};
+use or_command::{LoadStop, Loaded, Outcome, Output, write_outputs};
 use or_command_image::{load_recorded, recorded_in};
 use or_command_line::Recorded;
 use or_host::Host;
@@ -71,6 +71,7 @@ fn finish<'a, H: Host>(
     requires name { IsName report.now }
     requires limit { length (bytes_in (recorded_names names.now) (bytes_of files.now)).image ≤ IMAGE_LIMIT }
     ensures outcome { GoesOn (RecordedVerdict (recorded_names names.now)) (ReplayWrites (recorded_names names.now) report.now) (bytes_of files.now) (end_of result) (H.state host.old) (H.state host.new) }
+    ensures passed { IfNoMemory (end_of result) (FilesRunShort (recorded_names names.now) (bytes_of files.now)) }
     ensures silent { Silent (H.state host.old) (H.state host.new) }
 {
     match check(alloc, recorded_in(names.input, files)) {
@@ -92,11 +93,11 @@ pub fn replay<'a, H: Host>(
 ) -> Outcome<'a>
     requires names { AreRecorded (recorded_names names.now) }
     requires report { IsReport (recorded_names names.now) report.now }
-    ensures outcome { OutcomeBy (replay_loads (recorded_names names.now)) (RecordedVerdict (recorded_names names.now)) (ReplayWrites (recorded_names names.now) report.now) LeavesAll
+    ensures outcome { OutcomeBy (replay_loads (recorded_names names.now)) (RecordedVerdict (recorded_names names.now)) (ReplayWrites (recorded_names names.now) report.now) (ReplayLacks (recorded_names names.now))
         (end_of result) (H.state host.old) (H.state host.new) }
     ensures silent { Silent (H.state host.old) (H.state host.new) }
 {
-    let mut files = Vec::new(alloc);
+    let mut files = Loaded::new_in(alloc);
     match load_recorded(
         alloc,
         host,

@@ -1,10 +1,9 @@
-use Rattle.std.proofs.Common.{◌≢◌, ℕ, List, subst, sym}
+use Rattle.std.proofs.Common.{◌≡◌, ◌≢◌, ℕ, List, None, subst, sym}
 use Rattle.or_command_line.specs.Names.{run_names}
 use Rattle.or_command.specs.Ends.{end_of}
-use Rattle.or_command.specs.Outcomes.{LeavesAll}
-use Rattle.or_command.proofs.OutcomesLemmas.{said_leaves_all}
+use Rattle.or_command.proofs.OutcomesLemmas.{said_lacks}
 use Rattle.or_command.proofs.AnsweredLemmas.{answered, decided, not_two}
-use Rattle.or_command_run.specs.Run.{run_loads, run_check, RunWrites}
+use Rattle.or_command_run.specs.Run.{run_loads, run_check, RunWrites, RunLacks}
 use Rattle.or_command_run.specs.Budgets.{AreSaidBehind}
 use Rattle.or_command_run.proofs.Runs.{run_not_two, run_status_not_two}
 use Rattle.or_command_run.proofs.Behind.{decided_behind}
@@ -25,8 +24,8 @@ returns-clause-ends g c =
       plain = c.conclude-status.result;
       status_is = c.run_status.ensures;
       ended = d;
-      answers = answered (run_loads names) (run_check names config) (RunWrites names config failed lines) LeavesAll (end_of c.run-ended.result.outcome) c.conclude-status.result a b d
-          (λ left. said_leaves_all a b d left c.conclude-status.ensures.only) c.conclude-status.ensures.status c.run-ended.ensures.outcome c.run-ended.ensures.silent
+      answers = answered (run_loads names) (run_check names config) (RunWrites names config failed lines) (RunLacks names config) (end_of c.run-ended.result.outcome) c.conclude-status.result a b d
+          (λ left. said_lacks (run_loads names) (λ files. run_check names config files ≡ None) a b d left c.conclude-status.ensures.only) c.conclude-status.ensures.status c.run-ended.ensures.outcome c.run-ended.ensures.silent
           c.conclude-status.ensures.line c.conclude-status.ensures.only;
       told = subst (λ (l : List ℕ). AreSaidBehind c.conclude-status.result l d e) c.as_slice.ensures.value c.say_budgets.ensures;
     }
@@ -36,14 +35,15 @@ returns-clause-complete g c =
     let names = run_names c.args.words.now in
     let config = c.args.words.now.options.config in
     let ends = returns-clause-ends g c in
-    let a = g.H.Host.state c.args.host.now in record {
+    let a = g.H.Host.state c.args.host.now in
+    let e = g.H.Host.state c.say_budgets.new.host in record {
       failed = ends.failed;
       lines = ends.lines;
       plain = ends.plain;
       status_is = ends.status_is;
-      decided = decided_behind (run_loads names) (run_check names config) (RunWrites names config ends.failed ends.lines) LeavesAll ends.plain
-          a ends.ended (g.H.Host.state c.say_budgets.new.host)
-          (decided (run_loads names) (run_check names config) (RunWrites names config ends.failed ends.lines) LeavesAll ends.plain a ends.ended ends.answers) ends.told.only;
+      decided = decided_behind (run_loads names) (run_check names config) (RunWrites names config ends.failed ends.lines) (RunLacks names config) ends.plain
+          a ends.ended e (λ left. said_lacks (run_loads names) (λ files. run_check names config files ≡ None) a ends.ended e left ends.told.only)
+          (decided (run_loads names) (run_check names config) (RunWrites names config ends.failed ends.lines) (RunLacks names config) ends.plain a ends.ended ends.answers) ends.told.only;
     }
 
 pub returns-clause-command : goal.returns-clause-command
@@ -53,5 +53,5 @@ returns-clause-command g c =
     let ends = returns-clause-ends g c in
     subst (λ (status : ℕ). status ≢ 2) (sym ends.status_is)
     (run_status_not_two options.status ends.failed ends.plain
-    (not_two (run_loads names) (run_check names options.config) (RunWrites names options.config ends.failed ends.lines) LeavesAll ends.plain
+    (not_two (run_loads names) (run_check names options.config) (RunWrites names options.config ends.failed ends.lines) (RunLacks names options.config) ends.plain
     (g.H.Host.state c.args.host.now) ends.ended (run_not_two names options.config) ends.answers))

@@ -1,8 +1,7 @@
 use Rattle.std.proofs.Common.{arith, rules, ◌≡◌, sym, ap, subst, ℕ, List, [], ◌∷◌, ◌++◌, length}
 use Rattle.std.proofs.lemmas.Grind.{common_steps}
-use Rattle.or_command.specs.declared.loading.LoadStop.TheVariants.{NoMemory}
 use Rattle.or_command.specs.Loads.{Load, load_of, loads_of, bytes_of, LoadsAll, LoadsSome}
-use Rattle.or_command.proofs.LoadsLemmas.{empty_list, none_loaded, first_stops, first_lost, later_stops}
+use Rattle.or_command.proofs.LoadsLemmas.{empty_list, none_loaded, first_stops, later_stops}
 use Rattle.or_command.proofs.loading.+load_files.Goals as goal
 
 pub returns-in_default-clause-files : goal.returns-in_default-clause-files
@@ -21,17 +20,6 @@ returns-in-Err-clause-files g t c =
     let held = bytes_of c.args.into.now.items in
     subst (λ (loads : List Load). LoadsSome loads c.in-Err.stop held held a b) (sym (ap loads_of parts))
     (first_stops (load_of c.in-Some.first.now) (loads_of c.in-Some.others.now) c.in-Err.stop held a b c.in-Err.ensures.file)
-
-pub returns-then-is_err-clause-files : goal.returns-then-is_err-clause-files
-returns-then-is_err-clause-files g t c =
-    let parts : c.args.inputs.now ≡ c.in-Some.first.now ∷ c.in-Some.others.now = search rules in
-    let a = g.H.Host.state c.args.host.now in
-    let b = g.H.Host.state c.load_one.new.host in
-    let held = bytes_of c.args.into.now.items in
-    let kept : bytes_of c.push.new.self.items ≡ held = search rules in
-    subst (λ (k : List (List ℕ)). LoadsSome (loads_of c.args.inputs.now) NoMemory held k a b) (sym kept)
-    (subst (λ (loads : List Load). LoadsSome loads NoMemory held held a b) (sym (ap loads_of parts))
-    (first_lost (load_of c.in-Some.first.now) (loads_of c.in-Some.others.now) c.in-Ok.file.items held a b c.in-Ok.ensures.file))
 
 pub returns-in-Err-load_files-clause-files : goal.returns-in-Err-load_files-clause-files
 returns-in-Err-load_files-clause-files g t c =

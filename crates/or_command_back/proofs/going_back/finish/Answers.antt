@@ -3,10 +3,11 @@ use Rattle.or_command.specs.Ends.{end_of}
 use Rattle.or_command.specs.Finishing.{WriteEnds}
 use Rattle.or_command.specs.Loads.{bytes_of}
 use Rattle.or_command_line.specs.Names.{recorded_names}
-use Rattle.or_recorded.specs.Replay.{bytes_in}
+use Rattle.or_recorded.specs.Replay.{bytes_in, FilesRunShort}
 use Rattle.or_command_back.specs.Back.{IsGoneOver, IsBackText}
 use Rattle.or_command_debug.proofs.Sessions.{checked_in}
 use Rattle.or_command_back.proofs.Sessions.{written_ends, script_ends}
+use Rattle.or_recorded.proofs.Short.{if_no_memory, checked_short, run_short}
 use Rattle.or_command_back.proofs.going_back.finish.Goals as goal
 
 pub returns-in-Ok-text-clause-outcome : goal.returns-in-Ok-text-clause-outcome
@@ -33,3 +34,36 @@ returns-in-Err-text-clause-outcome g c =
     let faulted = c.in-Err-text.ensures bytes told.image told.input checked in
     script_ends names c.args.script.now files c.in-Err-text.fault (end_of c.refuse_script.result) (g.H.Host.state c.args.host.now)
     (subst (λ (l : List ℕ). IsBackText bytes l (Err c.in-Err-text.fault)) c.script_in-lines.ensures faulted) c.refuse_script.ensures
+
+pub returns-in-Ok-text-clause-passed : goal.returns-in-Ok-text-clause-passed
+returns-in-Ok-text-clause-passed g c =
+    let names = recorded_names c.args.names.now in
+    let files = bytes_of c.args.files.now in
+    let bytes = bytes_in names files in
+    let read = c.recorded_in-read.result in
+    let told = c.recorded_in-read.ensures in
+    let kept = c.into_recording-recording.result in
+    if_no_memory (end_of c.tell.result) (FilesRunShort names files)
+    (checked_short bytes.image bytes.input bytes.recording kept.head kept.turns.items kept.marks.items
+    (checked_in bytes read.image.now read.input.now read.recording.now c.in-Ok.run' kept told.image told.input told.recording c.into_recording-recording.ensures c.in-Ok.ensures))
+
+pub returns-in-Err-text-clause-passed : goal.returns-in-Err-text-clause-passed
+returns-in-Err-text-clause-passed g c =
+    let names = recorded_names c.args.names.now in
+    let files = bytes_of c.args.files.now in
+    let bytes = bytes_in names files in
+    let read = c.recorded_in-read.result in
+    let told = c.recorded_in-read.ensures in
+    let kept = c.into_recording-recording.result in
+    if_no_memory (end_of c.refuse_script.result) (FilesRunShort names files)
+    (checked_short bytes.image bytes.input bytes.recording kept.head kept.turns.items kept.marks.items
+    (checked_in bytes read.image.now read.input.now read.recording.now c.in-Ok.run' kept told.image told.input told.recording c.into_recording-recording.ensures c.in-Ok.ensures))
+
+pub returns-in-Err-clause-passed : goal.returns-in-Err-clause-passed
+returns-in-Err-clause-passed g c =
+    let names = recorded_names c.args.names.now in
+    let files = bytes_of c.args.files.now in
+    let read = c.recorded_in-read.result in
+    let told = c.recorded_in-read.ensures in
+    run_short names files (record { image = read.image.now; input = read.input.now; recording = read.recording.now }) c.in-Err.fault (end_of c.refuse.result)
+    (λ i. record { image = told.image i; input = told.input i; recording = told.recording i }) c.in-Err.ensures c.refuse.ensures

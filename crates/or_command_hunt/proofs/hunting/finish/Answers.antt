@@ -4,7 +4,7 @@ use Rattle.or_command_image.specs.Loaded.{image_in}
 use Rattle.or_command_line.specs.Names.{hunt_names}
 use Rattle.or_command.specs.Loads.{bytes_of}
 use Rattle.or_command.specs.Ends.{end_of}
-use Rattle.or_command_image.specs.Opened.{RunFails}
+use Rattle.or_replay.specs.Opening.{FailsToOpen}
 use Rattle.or_command_hunt.proofs.Hunts.{hunt_refused}
 use Rattle.or_command_hunt.proofs.hunting.finish.Goals as goal
 
@@ -15,4 +15,4 @@ returns-in-Err g c =
     let files = bytes_of c.args.files.now in
     hunt_refused names options files (end_of c.refused.result) (g.H.Host.state c.args.host.now)
     (c.refused.ensures (image_in files) (ram_bytes options.config)
-    (subst (λ (image : List ℕ). RunFails image (ram_bytes options.config) c.in-Err.fault) c.image_in.ensures c.in-Err.ensures))
+    (subst (λ (image : List ℕ). FailsToOpen image (ram_bytes options.config) c.in-Err.fault) c.image_in.ensures c.in-Err.ensures))

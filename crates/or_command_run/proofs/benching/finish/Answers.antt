@@ -8,7 +8,7 @@ use Rattle.or_command_image.specs.Loaded.{image_check}
 use Rattle.or_command.specs.Ends.{end_of}
 use Rattle.or_command.specs.Answered.{Stops}
 use Rattle.or_command_run.specs.Bench.{bench_check, bench_config, bench_name, program_check, BenchWrites}
-use Rattle.or_command_run.proofs.Stopping.{stops_end}
+use Rattle.or_command_run.proofs.Stopping.{stops_end, stops_in_check}
 use Rattle.or_command_run.proofs.benching.finish.Goals as goal
 
 pub returns-in-Err-clause-outcome : goal.returns-in-Err-clause-outcome
@@ -17,6 +17,7 @@ returns-in-Err-clause-outcome g c =
     let ram = ram_bytes (bench_config numbers) in
     let end = end_of c.refused.result in
     stops_end (bench_check numbers) (BenchWrites numbers c.args.schedule.now) [] end (g.H.Host.state c.args.host.now)
+    (stops_in_check (bench_check numbers []) end
     (subst (λ (said : Result (List Piece) SourceFault). Stops (program_check numbers said) end) (sym c.requires.image.said)
     (subst (λ (image : List ℕ). Stops (image_check bench_name (elf_fault image ram)) end) c.requires.image.text
-    (c.refused.ensures c.args.image.now ram c.in-Err.ensures.run)))
+    (c.refused.ensures c.args.image.now ram c.in-Err.ensures.run))))

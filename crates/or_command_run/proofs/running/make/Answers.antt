@@ -11,7 +11,7 @@ returns-in-Ok-texts g c =
     let image = c.args.image.now in
     let texts = c.in-Ok-texts.texts in
     let run : IsThreadedRun (start config image c.args.input.now) c.in-Ok-run.closed =
-    subst (λ (bytes : List ℕ). IsThreadedRun (start config image bytes) c.in-Ok-run.closed) c.in-Ok.ensures.items c.in-Ok-run.ensures.run.1 in record {
+    subst (λ (bytes : List ℕ). IsThreadedRun (start config image bytes) c.in-Ok-run.closed) c.in-Ok.ensures.1 c.in-Ok-run.ensures.run.1 in record {
       run = (
         c.in-Ok-run.ensures.run.0,
         subst (λ (head : Head). IsRunFrom (start config image c.args.input.now) head image texts.recording.items texts.report.items texts.console.items texts.failed texts.lines.items) c.head.ensures

@@ -13,9 +13,9 @@ use Rattle.or_command_source.proofs.disassembly.disassembled.Goals as goal
 pub returns-in-Ok-clause-outcome : goal.returns-in-Ok-clause-outcome
 returns-in-Ok-clause-outcome g c =
     let image = c.args.image.now in
-    dis_goes_on image (bytes_of c.new-files.result.items) (bytes_of c.load_files.new.into.items) (end_of c.finish.result)
+    dis_goes_on image (bytes_of c.new_in-files.result.items) (bytes_of c.load_files.new.into.items) (end_of c.finish.result)
     (g.H.Host.state c.args.host.now) (g.H.Host.state c.load_files.new.host) (g.H.Host.state c.finish.new.host)
-    (ap bytes_of c.new-files.ensures.items) c.in-Ok.ensures.files
+    (ap bytes_of c.new_in-files.ensures) c.in-Ok.ensures.files
     (subst (λ (files : List (Vec ℕ Global)). DisEnds image (only_file (bytes_of files)) (end_of c.finish.result)
     (g.H.Host.state c.load_files.new.host) (g.H.Host.state c.finish.new.host)) c.as_slice.ensures.value
     (subst (λ (bytes : List ℕ). DisEnds image bytes (end_of c.finish.result) (g.H.Host.state c.load_files.new.host) (g.H.Host.state c.finish.new.host))
@@ -28,4 +28,4 @@ returns-clause-outcome g c =
     let loads = c.in-Err-NoMemory.ensures.files in
     let stops : StopsForMemory (dis_loads c.args.image.now) loads.files a b =
     subst (λ (stop : LoadStop). StopsLoading (dis_loads c.args.image.now) stop loads.files a b) c.in-Err-NoMemory.field-0-is loads.stops in
-    lacks_none c.args.image.now a b (record { untouched = stops.untouched; no_fault = stops.no_fault })
+    lacks_none c.args.image.now a b (record { untouched = stops.untouched; no_fault = stops.no_fault }) stops.lacked

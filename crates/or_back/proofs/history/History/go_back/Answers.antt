@@ -21,4 +21,10 @@ returns-in_default-clause-tells c = λ start turns t. record {
 }
 
 pub copy_of-requires : goal.copy_of-requires
-copy_of-requires c = let found = c.in-Some.ensures in slice_get_within c.args.self.now.kept.items c.in-Some.i found.0 (ap (λ xs. slice_get xs c.in-Some.i) (sym c.deref.ensures.value) ∙ found.1)
+copy_of-requires c = let found = c.in-Some.ensures in slice_get_within c.args.self.now.kept.items c.in-Some.i found.one (ap (λ xs. slice_get xs c.in-Some.i) (sym c.deref.ensures.value) ∙ found.at)
+
+pub invariant_of-self-2-clause-multiples : goal.invariant_of-self-2-clause-multiples
+invariant_of-self-2-clause-multiples c = c.copy_of.ensures.multiples c.args.self.now.every c.args.self.now.multiples
+
+pub invariant_of-self-in-Break-branch-2-clause-multiples : goal.invariant_of-self-in-Break-branch-2-clause-multiples
+invariant_of-self-in-Break-branch-2-clause-multiples c = c.copy_of.ensures.multiples c.args.self.now.every c.args.self.now.multiples

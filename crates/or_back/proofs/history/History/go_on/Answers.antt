@@ -17,3 +17,6 @@ returns-clause-tells c = λ start turns t.
       here = subst (λ (l : List ℕ). IsAfter start l c.args.to c.forward.new.board.cores c.forward.new.board.bus) same (c.forward.ensures.here start can here);
       kept = subst (λ (l : List ℕ). AllStand start l c.forward.new.kept.items) same (c.forward.ensures.kept start can here kept);
     }
+
+pub invariant_of-self-clause-multiples : goal.invariant_of-self-clause-multiples
+invariant_of-self-clause-multiples c = c.forward.ensures.multiples c.args.self.now.multiples

@@ -26,3 +26,6 @@ returns-clause-made c = λ start turns t.
     let can = subst (CanFollow start) (sym same) t.follows in
     let here = subst (λ (l : List ℕ). IsAfter start l old.at old.board.cores old.board.bus) (sym same) t.here in
     (c.step-made.ensures.made start can here).made_is ∙ ap (λ (l : List ℕ). turn_made start l old.at) same
+
+pub invariant_of-self-clause-multiples : goal.invariant_of-self-clause-multiples
+invariant_of-self-clause-multiples c = c.step-made.ensures.multiples c.args.self.now.multiples
