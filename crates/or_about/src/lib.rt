@@ -1,7 +1,7 @@
 //! What the program answers about itself: the help of all commands, that of one, and its version.
 #![tactic(auto)]
 
-ghost use Rattle.std.specs.Prelude.{◌≡◌, ◌++◌, [], List, None, Some, MatchOption, OnOk, codes};
+ghost use Rattle.std.specs.Prelude.{◌≡◌, ◌++◌, [], OnOk, codes};
 ghost use Rattle.std.specs.List.{flat_map};
 ghost use Rattle.or_command_line.specs.Words.{texts};
 ghost use Rattle.or_command.specs.Leaves.{Silent};
@@ -73,21 +73,19 @@ fn asked_of<'a>(about: &Texts<'a>, name: &str, word: &str) -> Option<About<'a>>
         return None;
     }
     match find_help(about.commands, name) {
-        Some(help) => Some(About::One(*help)),
+        Some(help) => Some(About::One(help)),
         None => None,
     }
 }
 
 // What is told of the command of this name.
-fn find_help<'a>(helps: &'a [Help<'a>], name: &str) -> Option<&'a Help<'a>>
-    ensures { MatchOption result (help_named helps.now name.now ≡ None) (λ help. help_named helps.now name.now ≡ Some help.now) }
+fn find_help<'a>(helps: &[Help<'a>], name: &str) -> Option<Help<'a>>
+    ensures { result ≡ help_named helps.now name.now }
 {
-    let mut rest = helps;
-    while let Some((help, others)) = rest.split_first() {
+    for help in helps {
         if help.name == name {
-            return Some(help);
+            return Some(*help);
         }
-        rest = others;
     }
     None
 }

@@ -26,5 +26,10 @@ copy_of-requires c = let found = c.in-Some.ensures in slice_get_within c.args.se
 pub invariant_of-self-2-clause-multiples : goal.invariant_of-self-2-clause-multiples
 invariant_of-self-2-clause-multiples c = c.copy_of.ensures.multiples c.args.self.now.every c.args.self.now.multiples
 
-pub invariant_of-self-in-Break-branch-2-clause-multiples : goal.invariant_of-self-in-Break-branch-2-clause-multiples
-invariant_of-self-in-Break-branch-2-clause-multiples c = c.copy_of.ensures.multiples c.args.self.now.every c.args.self.now.multiples
+pub invariant_of-self-in-Break-branch-2 : goal.invariant_of-self-in-Break-branch-2
+invariant_of-self-in-Break-branch-2 c = record {
+  within = c.args.self.now.within;
+  steps = c.args.self.now.steps;
+  few = omega (arith, c.copy_of.ensures.many, c.args.self.now.few);
+  multiples = c.copy_of.ensures.multiples c.args.self.now.every c.args.self.now.multiples;
+}
