@@ -81,12 +81,13 @@ pub(crate) const COMMANDS: [Help<'static>; 11] = [
     },
     Help {
         name: "race",
-        words: "IMAGE INPUT SCHED [--locks]",
+        words: "IMAGE INPUT SCHED [--locks] [--where]",
         text: "    Follows a recorded run, and writes to standard output the words of RAM with a data race, each with the turns and cores
     of two racing accesses. An l.swa that stored is ordered before later l.lwa of its word; a plain store orders nothing.
     --locks          a word that l.lwa or l.swa accesses is a lock: a plain store frees it, and it does not race
+    --where          each line tells the word's object, and the pcs of both accesses with their functions, by the image's symbols
 ",
-        example: "or1k race program.elf - program.sched --locks",
+        example: "or1k race program.elf - program.sched --locks --where",
     },
     Help {
         name: "prof",

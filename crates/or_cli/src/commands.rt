@@ -180,9 +180,15 @@ fn race_command<H: Host>(
         report: None,
     };
     if options.locks {
-        recorded_command(alloc, &names, &Race::<true>, host)
+        let race = Race::<true> {
+            places: options.places,
+        };
+        recorded_command(alloc, &names, &race, host)
     } else {
-        recorded_command(alloc, &names, &Race::<false>, host)
+        let race = Race::<false> {
+            places: options.places,
+        };
+        recorded_command(alloc, &names, &race, host)
     }
 }
 
@@ -271,8 +277,8 @@ pub fn top_alone<H: Host>(alloc: Global, words: &[String], host: &mut H) -> u8
 
 /// Does the command of a command line, and answers the status: 0 if all was done, 2 if the command line is not valid, 3 if the
 /// image has a fault, 4 if the recording is refused, 5 if a file was not read, 6 if an output was not written, 7 if memory ran
-/// out, 8 if a file is too long, 9 if the source has a fault, 10 if the script has one, 12 if the symbols of a profiled image
-/// have one, 14 if no try of a hunt failed, 15 if all was done with `run --status` and a core failed. Of a status other than 0
+/// out, 8 if a file is too long, 9 if the source has a fault, 10 if the script has one, 12 if the symbols that `prof` or
+/// `race --where` reads have one, 14 if no try of a hunt failed, 15 if all was done with `run --status` and a core failed. Of a status other than 0
 /// and 15 it says the line, and then a sentence for people.
 pub fn top<R: Threads + Wait + Sync, H: Host, G: Gate + Sync>(
     rt: &R,

@@ -121,7 +121,8 @@ fn print_command<R: Print>(rt: &R, command: &Command<'_>) -> Result<(), CaseFaul
         }
         Command::Race { files, options } => {
             print_recorded(rt, "race", files)?;
-            println!(rt; "{}", if options.locks { " locks" } else { "" })?;
+            print!(rt; "{}", if options.locks { " locks" } else { "" })?;
+            println!(rt; "{}", if options.places { " where" } else { "" })?;
         }
         Command::Prof { files } => {
             print_recorded(rt, "prof", files)?;
