@@ -44,7 +44,5 @@ fn main(rt: HostRuntime) -> ExitCode {
         version: VERSION,
     };
     let mut host = FileHost::new(&rt);
-    ExitCode::from(program(
-        &rt, alloc, &about, &words, &mut host, &OpenGate,
-    ))
+    ExitCode::from(program(&rt, alloc, &about, &words, &mut host, &OpenGate))
 }

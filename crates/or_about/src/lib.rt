@@ -172,12 +172,7 @@ fn answered<H: Host>(
 ///
 /// Status: 0 all was written, 6 standard output was not written, 7 no memory. After 7 nothing is written; after 6 a prefix of
 /// the text is.
-pub fn answer<H: Host>(
-    alloc: Global,
-    about: &Texts<'_>,
-    question: &About<'_>,
-    host: &mut H,
-) -> u8
+pub fn answer<H: Host>(alloc: Global, about: &Texts<'_>, question: &About<'_>, host: &mut H) -> u8
     ensures { AboutAnswers (text_of about.now question.now) result (H.state host.old) (H.state host.new) }
 {
     let outcome = answered(alloc, about, question, host);

@@ -2,10 +2,10 @@
 #![tactic(auto)]
 
 mod commands;
-mod program;
+mod entry;
 
 pub use commands::{top, top_alone, top_run};
+pub use entry::program;
 pub use or_about::{Help, Texts};
 pub use or_board::{Gate, OpenGate};
 pub use or_host::{Blame, Deed, Failed, FileHost, Host, LoadFail, MemHost, SureHost};
-pub use program::program;

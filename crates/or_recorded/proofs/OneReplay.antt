@@ -15,8 +15,7 @@ one_end bytes report console other_report other is also =
     let same = unique bytes.recording is.head also.head is.turns also.turns is.marks also.marks is.checked.of_run.text also.checked.of_run.text in
     let ends : Some is.last ≡ Some also.last =
     sym is.reached ∙ (λ i. replay (start (same.0 i).config bytes.image bytes.input) (same.1 i)) ∙ also.reached in
-    let last : is.last ≡ also.last = cc in
-    (
+    let last : is.last ≡ also.last = cc in (
       is.reported ∙ (λ i. report_text (last i) (length (same.1 i))) ∙ sym also.reported,
       is.shown ∙ ap (λ (board : Board). board.world.uart.console) last ∙ sym also.shown,
     )
