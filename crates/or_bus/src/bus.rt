@@ -254,7 +254,7 @@ impl Bus {
     }
 
     /// The word at an address in the line that the core holds, which is that of RAM.
-    #[inline]
+    #[inline(always)]
     pub(crate) fn look(&self, core: u32, pa: u32) -> Option<u32>
         requires core { core < self.now.cores }
         requires aligned { pa % 4 ≡ 0 }

@@ -47,6 +47,7 @@ impl Begun {
 
 impl Core {
     // Makes the private steps of a turn, at most 256.
+    #[inline(always)]
     #[tactic(auto, using(crate::proofs::Begins::begin_steps), unfolding(or_model::specs::Turn::turn_begun))]
     fn begin(&mut self) -> Begun
         requires { self.old.stop ≡ None }

@@ -48,7 +48,7 @@ impl DCaches {
     }
 
     /// The word at an address, None exactly where the core does not hold its line.
-    #[inline]
+    #[inline(always)]
     pub fn look(&self, core: u32, pa: u32) -> Option<u32>
         requires core { core < length self.now }
         requires aligned { pa % 4 ≡ 0 }
@@ -77,7 +77,7 @@ impl DCaches {
     }
 
     /// Stores the low bits of a word at an address in the core's line of it, where that is held.
-    #[inline]
+    #[inline(always)]
     pub fn update(&mut self, core: u32, pa: u32, width: Width, v: u32)
         requires core { core < length self.old }
         requires aligned { pa % bytes_of width ≡ 0 }

@@ -85,7 +85,7 @@ impl DataCache {
     }
 
     /// The word at an address, None exactly where its line is not held.
-    #[inline]
+    #[inline(always)]
     #[tactic(auto, unfolding(or_parts::specs::Lines::held_word))]
     pub fn look(&self, pa: u32) -> Option<u32>
         requires { pa % 4 ≡ 0 }
@@ -133,7 +133,7 @@ impl DataCache {
     }
 
     /// Stores the low bits of a word at an address in its line, where that is held.
-    #[inline]
+    #[inline(always)]
     pub fn update(&mut self, pa: u32, width: Width, v: u32)
         requires { pa % bytes_of width ≡ 0 }
         ensures { self.new ≡ line_updated self.old pa width v }
@@ -142,7 +142,7 @@ impl DataCache {
     }
 }
 
-#[inline]
+#[inline(always)]
 #[tactic(auto, unfolding(crate::specs::Caches::line_updated))]
 fn update_line(lines: &mut [Option<Line>], pa: u32, width: Width, v: u32)
     requires aligned { pa % bytes_of width ≡ 0 }
