@@ -14,7 +14,7 @@ ghost use Rattle.or_command.specs.Leaves.{Silent};
 ghost use Rattle.or_command.specs.Ends.{end_of};
 ghost use Rattle.or_command.specs.Outcomes.{CommandOutcome, LeavesAll};
 ghost use Rattle.or_command.specs.Finishing.{WriteEnds};
-ghost use Rattle.or_command.specs.Answered.{FinishEnds, Stops};
+ghost use Rattle.or_command.specs.Answered.{FinishEnds, StopsInCheck};
 ghost use Rattle.or_elf.specs.Text.{Piece};
 ghost use Rattle.or_asm.specs.Source.{SourceFault, source_of, Refuses};
 ghost use Rattle.or_command_source.specs.Assembly.{IsFileOf};
@@ -171,7 +171,7 @@ fn finish<'a, R: Threads + Wait + Sync, H: Host, G: Gate + Sync>(
 
 // How a workload that has no program ends a bench.
 fn refuse_workload(fault: AsmFault<'_>) -> Outcome<'static>
-    ensures { (source : Result (List Piece) SourceFault) → Refuses fault.entry source → Stops (workload_check source) (end_of result) }
+    ensures { (source : Result (List Piece) SourceFault) → Refuses fault.entry source → StopsInCheck (workload_check source) (end_of result) }
 {
     match fault.line() {
         None => Outcome::NoMemory,
@@ -189,7 +189,7 @@ fn refuse_workload(fault: AsmFault<'_>) -> Outcome<'static>
 // The image of a workload: its source, assembled; or how a bench without one ends.
 fn image(alloc: Global, workload: &Workload) -> Result<Vec<u8>, Outcome<'static>>
     requires numbers { FitsWorkload workload.now }
-    ensures file { MatchResult result (λ image. IsFileOf false (bench_source workload.now) image.items) (λ outcome. Stops (workload_check (source_of (bench_source workload.now))) (end_of outcome)) }
+    ensures file { MatchResult result (λ image. IsFileOf false (bench_source workload.now) image.items) (λ outcome. StopsInCheck (workload_check (source_of (bench_source workload.now))) (end_of outcome)) }
     ensures limit { IfOk result (λ image. length image.items ≤ IMAGE_LIMIT) }
 {
     let mut source = Vec::new(alloc);

@@ -51,10 +51,6 @@ FilesRunShort names read = RunsShort (files_in names read).image (files_in names
 abbrev pub CommandLacks : Names → HostState → HostState → Type 0
 CommandLacks names = LacksMemory (loads names) (FilesRunShort names)
 
--- a command that makes no check of its own
-abbrev pub no_fault : Run → Option OwnFault
-no_fault run = None
-
 -- A command is told by two things: `fault`, the check of its own that a run fails, behind all checks of a recorded run, or
 -- none; and `Makes`, the texts that it makes of a run, of its report and of the console.
 module _ (fault : Run → Option OwnFault) (Makes : Run → List ℕ → List ℕ → Type 0) where
