@@ -3,6 +3,7 @@
 #![tactic(auto)]
 
 ghost use Rattle.std.specs.Prelude.{◌≡◌, ◌≤◌, [], length, OnOk, OnErr};
+ghost use Rattle.or_words.specs.declared.limits.TheConstants.{SOURCE_LIMIT};
 ghost use Rattle.or_asm.specs.Program.{word_count};
 ghost use Rattle.or_asm.specs.Source.{source_of, Answers};
 
@@ -26,7 +27,7 @@ pub use symbols::program_symbols;
 #[tactic(auto, using(crate::proofs::Bounds::bounds))]
 pub fn assemble<'a>(alloc: Global, text: &'a [u8], out: &mut Program) -> Result<(), AsmFault<'a>>
     requires empty { out.old ≡ [] }
-    requires limit { length text.now ≤ 4194304 }
+    requires limit { length text.now ≤ SOURCE_LIMIT }
     ensures source { Answers result out.new (source_of text.now) }
     ensures err { OnErr result (out.new ≡ []) }
 

@@ -1,6 +1,7 @@
 // The two passes: the labels and their places, and then the words.
 ghost use Rattle.std.specs.Prelude.{◌≡◌, ℕ, ◌+◌, ◌-◌, ◌*◌, ◌<◌, ◌≤◌, ◌^◌, ◌⊎◌, ◌++◌, [], ◌∷◌, Bool, ◌||◌, ◌&&◌, not, nat_le, length, map, take, is_some, Option, Some, None, Result, Ok, OnOk, IfOk, IfErr};
 ghost use Rattle.std.specs.List.{list_any};
+ghost use Rattle.or_words.specs.declared.limits.TheConstants.{SOURCE_LIMIT};
 ghost use Rattle.or_asm_read.specs.declared.fault.Fault.TheVariants as fault;
 ghost use Rattle.or_asm_read.specs.Labels.{Labels};
 ghost use Rattle.or_asm_read.specs.Cuts.{is_clean, label_of, statement_of};
@@ -46,7 +47,7 @@ fn note_label<'a>(
 
 /// The labels of a text, with their places.
 pub(crate) fn labels(alloc: Global, text: &[u8]) -> Result<LabelTable<'_>, AllocError>
-    requires { length text.now ≤ 4194304 }
+    requires { length text.now ≤ SOURCE_LIMIT }
     ensures { IfOk result (λ labels. labels ≡ labels_from 0x100 (lines_of text.now)) }
 {
     let mut labels = LabelTable::new(alloc);
@@ -238,7 +239,7 @@ fn words_of<'a>(
     labels: &LabelTable,
     text: &'a [u8],
 ) -> Result<Vec<Piece>, AsmFault<'a>>
-    requires { length text.now ≤ 4194304 }
+    requires { length text.now ≤ SOURCE_LIMIT }
     ensures program { IfOk result (λ pieces. source_from labels.now 1 initial_state (lines_of text.now) ≡ Ok pieces.items) }
     ensures refusal { IfErr result (λ answer. Refuses answer (source_from labels.now 1 initial_state (lines_of text.now))) }
 {
@@ -266,7 +267,7 @@ fn words_of<'a>(
 /// The pieces of a source, or its first fault.
 #[tactic(auto, unfolding(crate::specs::Source::source_of))]
 pub(crate) fn assembled(alloc: Global, text: &[u8]) -> Result<Vec<Piece>, AsmFault<'_>>
-    requires { length text.now ≤ 4194304 }
+    requires { length text.now ≤ SOURCE_LIMIT }
     ensures program { IfOk result (λ pieces. source_of text.now ≡ Ok pieces.items) }
     ensures refusal { IfErr result (λ answer. Refuses answer (source_of text.now)) }
 {

@@ -1,6 +1,7 @@
 // The labels of a source, for the symbol table of its program.
 ghost use Rattle.std.specs.Prelude.{◌≡◌, ◌≤◌, ◌<◌, ◌+◌, ◌*◌, ◌^◌, length, map, IfOk, IfSome, IsPermutation, IsSorted};
 ghost use Rattle.std.specs.Ordering.{nat_cmp};
+ghost use Rattle.or_words.specs.declared.limits.TheConstants.{SOURCE_LIMIT};
 ghost use Rattle.or_elf.specs.LabelText.{names_size};
 ghost use Rattle.or_asm.specs.First.{all_labels};
 ghost use Rattle.or_asm.specs.Program.{word_count};
@@ -114,10 +115,10 @@ pub fn program_symbols<'a>(
     text: &'a [u8],
     program: &Program,
 ) -> Result<Vec<Label<'a>>, AllocError>
-    requires limit { length text.now ≤ 4194304 }
+    requires limit { length text.now ≤ SOURCE_LIMIT }
     requires words { word_count program.now ≤ 16000000 }
     ensures labels { IfOk result (λ labels. labels.items ≡ symbols_of (all_labels text.now) program.now) }
-    ensures names { IfOk result (λ labels. names_size labels.items ≤ 4194304) }
+    ensures names { IfOk result (λ labels. names_size labels.items ≤ SOURCE_LIMIT) }
 {
     let labels = labels(alloc, text)?;
     entries(alloc, labels.entries(), &program.pieces)

@@ -1,5 +1,6 @@
 //! A session of the backward debugger.
 ghost use Rattle.std.specs.Prelude.{◌≡◌, ◌≢◌, ◌≤◌, ◌++◌, ℕ, List, [], None, length, OnOk, OnErr};
+ghost use Rattle.or_words.specs.declared.limits.TheConstants.{SCRIPT_LIMIT};
 ghost use Rattle.or_model.specs.Turn.{Board as BoardModel};
 ghost use Rattle.or_debug.specs.Session.{first_state};
 ghost use Rattle.or_back.specs.Script.{back_script_of, back_fault_of};
@@ -159,7 +160,7 @@ fn run(history: &mut History, commands: &[BackCommand], out: &mut Vec<u8>) -> Re
 #[tactic(auto, unfolding(crate::specs::Session::back_session_text))]
 pub fn session(history: &mut History, script: &[u8], out: &mut Vec<u8>) -> Result<(), ScriptFault>
     requires start { history.old.at ≡ 0 }
-    requires limit { length script.now ≤ 1048576 }
+    requires limit { length script.now ≤ SCRIPT_LIMIT }
     ensures fault { AnswersBackScript result (back_script_of history.old.board.config script.now) }
     ensures refused { back_fault_of (back_script_of history.old.board.config script.now) ≢ None → (history.new ≡ history.old) × (out.new.items ≡ out.old.items) }
     ensures written { OnOk result ((start : BoardModel) (turns : List ℕ) → Tells history.old start turns

@@ -1,6 +1,7 @@
 //! A script of the backward debugger: its commands, or the fault of its first faulty line.
 ghost use Rattle.std.specs.Prelude.{◌≡◌, ◌≤◌, ◌⊎◌, length, Ok, Some, IfOk, MatchResult};
 ghost use Rattle.or_script.specs.declared.fault.ScriptFault.TheVariants.{NoMemory};
+ghost use Rattle.or_words.specs.declared.limits.TheConstants.{SCRIPT_LIMIT};
 ghost use Rattle.or_back.specs.Script.{back_script_of, back_fault_of, IsBackChecked};
 
 use crate::lines::{BackCommand, add_points, back_command_at};
@@ -13,7 +14,7 @@ use std::alloc::Global;
 /// Errors: the fault of the first line that has one, BadCommand where the line has none of the forms, else OutOfRange.
 #[tactic(auto, using(crate::proofs::Scripts::lines), unfolding(crate::specs::Script::back_script_of))]
 pub fn check(config: &Config, script: &[u8]) -> Result<(), ScriptFault>
-    requires limit { length script.now ≤ 1048576 }
+    requires limit { length script.now ≤ SCRIPT_LIMIT }
     ensures { IsBackChecked result (back_script_of config.now script.now) }
 {
     let mut rest = Some(script);
@@ -42,7 +43,7 @@ pub(crate) fn commands(
     config: &Config,
     script: &[u8],
 ) -> Result<Vec<BackCommand>, ScriptFault>
-    requires limit { length script.now ≤ 1048576 }
+    requires limit { length script.now ≤ SCRIPT_LIMIT }
     ensures { MatchResult result (λ commands. back_script_of config.now script.now ≡ Ok commands.items)
         (λ fault. (fault ≡ NoMemory) ⊎ (back_fault_of (back_script_of config.now script.now) ≡ Some fault)) }
 {

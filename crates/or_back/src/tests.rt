@@ -1,6 +1,7 @@
 use super::*;
 use or_replay::Board;
 use or_words::Config;
+use or_words::limits::IMAGE_LIMIT;
 use std::alloc::Global;
 
 // A file with one segment of two instructions at 00000100, a jump to itself and what stands behind it.
@@ -15,7 +16,7 @@ const LOOPS: [u8; 92] = [
 
 // A history of so many turns of one core.
 fn history_of(alloc: Global, image: &[u8], many: u32, every: u64) -> Option<History> {
-    if image.len() > 67_108_864 || every == 0 {
+    if image.len() > IMAGE_LIMIT || every == 0 {
         return None;
     }
     let config = Config {

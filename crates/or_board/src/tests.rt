@@ -1,4 +1,5 @@
 ghost use Rattle.std.specs.Prelude.{◌≡◌, ◌≤◌, ◌+◌, ◌/◌, IfOk, length};
+ghost use Rattle.or_words.specs.declared.limits.TheConstants.{IMAGE_LIMIT};
 ghost use Rattle.or_words.specs.Settings.{Fits};
 ghost use Rattle.or_replay.specs.Board.{AreOfBus};
 ghost use Rattle.or_turn.specs.Units.{settings_in, id_of};
@@ -111,7 +112,7 @@ fn both_ends(
     closed: Closed,
 ) -> Result<[Vec<u8>; 4], Fail>
     requires fits { Fits config.now }
-    requires limit { length image.now ≤ 67108864 }
+    requires limit { length image.now ≤ IMAGE_LIMIT }
     requires order { AreOfBus closed.cores.items closed.bus }
     requires marks { length closed.marks.items ≡ length closed.schedule.items / 65536 }
 {
@@ -156,7 +157,7 @@ fn two_callers<R: Threads + Wait + Sync>(
 ) -> Result<Closed, Fail>
     requires fits { Fits config.now }
     requires two { config.now.cores ≡ 2 }
-    requires limit { length image.now ≤ 67108864 }
+    requires limit { length image.now ≤ IMAGE_LIMIT }
     ensures order { IfOk result (λ closed. AreOfBus closed.cores.items closed.bus) }
     ensures marks { IfOk result (λ closed. length closed.marks.items ≡ length closed.schedule.items / 65536) }
 {

@@ -1,5 +1,6 @@
 //! The command `back`.
 ghost use Rattle.std.specs.Prelude.{◌≡◌, ◌≤◌, [], length};
+ghost use Rattle.or_words.specs.declared.limits.TheConstants.{IMAGE_LIMIT, SCRIPT_LIMIT};
 ghost use Rattle.or_host.specs.HostState.{HostState};
 ghost use Rattle.or_host.specs.Calls.{IsName};
 ghost use Rattle.or_words.specs.Settings.{Fits};
@@ -36,8 +37,8 @@ fn text(
     every: u32,
 ) -> Result<Vec<u8>, ScriptFault>
     requires fits { Fits recording.head.config }
-    requires image { length image.now ≤ 67108864 }
-    requires script { length script.now ≤ 1048576 }
+    requires image { length image.now ≤ IMAGE_LIMIT }
+    requires script { length script.now ≤ SCRIPT_LIMIT }
     requires every { FitsEvery every }
     ensures { (bytes : RecordedBytes) → image.now ≡ bytes.image → input.now ≡ bytes.input
         → IsChecked bytes.image bytes.input bytes.recording recording.head recording.turns.items recording.marks.items
@@ -67,9 +68,9 @@ fn finish<'a, H: Host>(
     files: &[Vec<u8>],
     host: &mut H,
 ) -> Outcome<'a>
-    requires limit { length (bytes_in (recorded_names names.now) (bytes_of files.now)).image ≤ 67108864 }
+    requires limit { length (bytes_in (recorded_names names.now) (bytes_of files.now)).image ≤ IMAGE_LIMIT }
     requires every { FitsEvery every }
-    requires script_limit { length (script_bytes (recorded_names names.now).input (bytes_of files.now)) ≤ 1048576 }
+    requires script_limit { length (script_bytes (recorded_names names.now).input (bytes_of files.now)) ≤ SCRIPT_LIMIT }
     ensures outcome { GoesOn (BackVerdict (recorded_names names.now) script.now) (BackWrites (recorded_names names.now)) (bytes_of files.now) (end_of result) (H.state host.old) (H.state host.new) }
     ensures passed { IfNoMemory (end_of result) (FilesRunShort (recorded_names names.now) (bytes_of files.now)) }
     ensures silent { Silent (H.state host.old) (H.state host.new) }

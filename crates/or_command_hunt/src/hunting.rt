@@ -1,5 +1,6 @@
 //! The command `hunt`.
 ghost use Rattle.std.specs.Prelude.{◌≡◌, ◌≤◌, ◌+◌, ℕ, None, IfOk, MatchOption, MatchResult, length};
+ghost use Rattle.or_words.specs.declared.limits.TheConstants.{IMAGE_LIMIT};
 ghost use Rattle.or_words.specs.Settings.{Fits, ram_bytes};
 ghost use Rattle.or_elf.specs.Fault.{elf_fault};
 ghost use Rattle.or_sched.specs.Schedule.{IsSchedule, AreMarks};
@@ -44,7 +45,7 @@ struct HuntTexts {
 // The board that each try begins with.
 fn open(alloc: Global, config: &Config, image: &[u8], input: &[u8]) -> Result<Board, OpenFault>
     requires fits { Fits config.now }
-    requires limit { length image.now ≤ 67108864 }
+    requires limit { length image.now ≤ IMAGE_LIMIT }
     ensures { MatchResult result
         (λ board. (elf_fault image.now (ram_bytes config.now) ≡ None) × IsBoard board.cores board.bus (start config.now image.now input.now))
         (λ fault. FailsToOpen image.now (ram_bytes config.now) fault) }
@@ -166,7 +167,7 @@ fn finish<'a, H: Host>(
     requires names { AreWritten (hunt_names words.now) }
     requires fits { Fits words.now.options.config }
     requires range { FitsHunt words.now.options }
-    requires limit { length (image_of (bytes_of files.now)) ≤ 67108864 }
+    requires limit { length (image_of (bytes_of files.now)) ≤ IMAGE_LIMIT }
     ensures { HuntGoesOn (hunt_names words.now) words.now.options (bytes_of files.now) (end_of result) (H.state host.old) (H.state host.new) }
 {
     match open(

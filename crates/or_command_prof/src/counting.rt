@@ -1,5 +1,6 @@
 // The turns of a recorded run, counted.
 ghost use Rattle.std.specs.Prelude.{◌≡◌, ◌≤◌, ◌++◌, [], ◌∷◌, List, Some, None, IfOk, length};
+ghost use Rattle.or_words.specs.declared.limits.TheConstants.{IMAGE_LIMIT};
 ghost use Rattle.or_words.specs.Settings.{Fits, ram_bytes};
 ghost use Rattle.or_elf.specs.Fault.{elf_fault};
 ghost use Rattle.or_model.specs.Turn.{Board as BoardModel, board_turned, replay};
@@ -58,7 +59,7 @@ pub fn profile_text(
     input: &[u8],
 ) -> Result<Vec<u8>, NoMemory>
     requires fits { Fits recording.now.head.config }
-    requires limit { length image.now ≤ 67108864 }
+    requires limit { length image.now ≤ IMAGE_LIMIT }
     ensures { IfOk result (λ text. (last : BoardModel) → replay (start recording.now.head.config image.now input.now) recording.now.turns.items ≡ Some last
         → IsProfText recording.now.head.config.cores symbols (traces (start recording.now.head.config image.now input.now) recording.now.turns.items) text.items) }
 {

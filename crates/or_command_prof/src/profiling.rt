@@ -1,5 +1,6 @@
 //! The command `prof`.
 ghost use Rattle.std.specs.Prelude.{◌≡◌, ◌≤◌, [], ◌∷◌, None, length};
+ghost use Rattle.or_words.specs.declared.limits.TheConstants.{IMAGE_LIMIT};
 ghost use Rattle.or_host.specs.HostState.{HostState};
 ghost use Rattle.or_words.specs.Settings.{Fits, ram_bytes};
 ghost use Rattle.or_elf.specs.Fault.{elf_fault};
@@ -32,7 +33,7 @@ fn text(
     input: &[u8],
 ) -> Result<Vec<u8>, SymFault>
     requires fits { Fits recording.now.head.config }
-    requires limit { length image.now ≤ 67108864 }
+    requires limit { length image.now ≤ IMAGE_LIMIT }
     requires sound { elf_fault image.now (ram_bytes recording.now.head.config) ≡ None }
     ensures { (bytes : RecordedBytes) → image.now ≡ bytes.image → input.now ≡ bytes.input
         → IsChecked bytes.image bytes.input bytes.recording recording.now.head recording.now.turns.items recording.now.marks.items → IsText bytes result }
@@ -51,7 +52,7 @@ fn finish<'a, H: Host>(
     files: &[Vec<u8>],
     host: &mut H,
 ) -> Outcome<'a>
-    requires limit { length (bytes_in (recorded_names names.now) (bytes_of files.now)).image ≤ 67108864 }
+    requires limit { length (bytes_in (recorded_names names.now) (bytes_of files.now)).image ≤ IMAGE_LIMIT }
     ensures outcome { GoesOn (ProfVerdict (recorded_names names.now)) (ProfWrites (recorded_names names.now)) (bytes_of files.now) (end_of result) (H.state host.old) (H.state host.new) }
     ensures passed { IfNoMemory (end_of result) (FilesRunShort (recorded_names names.now) (bytes_of files.now)) }
     ensures silent { Silent (H.state host.old) (H.state host.new) }

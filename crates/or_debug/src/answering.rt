@@ -1,6 +1,7 @@
 //! A session of the debugger.
 ghost use Rattle.std.specs.Prelude.{◌≡◌, ◌≢◌, ◌≤◌, None, length, OnOk, OnErr};
 ghost use Rattle.std.specs.List.{All};
+ghost use Rattle.or_words.specs.declared.limits.TheConstants.{SCRIPT_LIMIT};
 ghost use Rattle.or_script.specs.Last.{HasFewTurns};
 ghost use Rattle.or_script.specs.Script.{script_of, fault_of};
 ghost use Rattle.or_model.specs.Turn.{Board as BoardModel};
@@ -89,7 +90,7 @@ pub fn session(
     script: &[u8],
     out: &mut Vec<u8>,
 ) -> Result<(), ScriptFault>
-    requires limit { length script.now ≤ 1048576 }
+    requires limit { length script.now ≤ SCRIPT_LIMIT }
     ensures fault { AnswersScript result (script_of board.old.config script.now) }
     ensures refused { fault_of (script_of board.old.config script.now) ≢ None → (board.new ≡ board.old) × (out.new.items ≡ out.old.items) }
     ensures written { OnOk result ((start : BoardModel) → IsBoard board.old.cores board.old.bus start → CanFollow start turns.now

@@ -1,5 +1,6 @@
 // Writes the file of a program with its labels.
 ghost use Rattle.std.specs.Prelude.{◌≡◌, ◌≤◌, ◌<◌, ◌+◌, ◌*◌, ◌^◌, [], ◌∷◌, ◌++◌, length, map, replicate, OnOk, OnErr, vec_capacity, vec_len};
+ghost use Rattle.or_words.specs.declared.limits.TheConstants.{SOURCE_LIMIT};
 ghost use Rattle.or_elf.specs.Text.{word_count};
 ghost use Rattle.or_elf.specs.LabelText.{names_size, padding_size, name_text, names_text, strings_text, symbol_text, symbols_text, symbol_table_text, three_sections, section_headers, sections_text, sections_start, strings_start, strings_size, symbol_table_start, symbol_table_size, labelled_text};
 
@@ -39,7 +40,7 @@ pub fn write_labelled(
     requires empty { out.old.items ≡ [] }
     requires pieces { length program.now ≤ 64 }
     requires words { word_count program.now ≤ 16000000 }
-    requires names { names_size labels.now ≤ 4194304 }
+    requires names { names_size labels.now ≤ SOURCE_LIMIT }
     ensures text { OnOk result (out.new.items ≡ labelled_text program.now labels.now) }
     ensures no_memory { OnErr result (out.new.items ≡ []) }
     ensures full { OnErr result (vec_capacity out.old < length (labelled_text program.now labels.now)) }
@@ -58,7 +59,7 @@ fn append_file(pieces: &[Piece], labels: &[Label<'_>], out: &mut Vec<u8>) -> Res
     requires empty { out.old.items ≡ [] }
     requires pieces { length pieces.now ≤ 64 }
     requires words { word_count pieces.now ≤ 16000000 }
-    requires names { names_size labels.now ≤ 4194304 }
+    requires names { names_size labels.now ≤ SOURCE_LIMIT }
     ensures text { OnOk result (out.new.items ≡ labelled_text pieces.now labels.now) }
     ensures full { OnErr result (vec_capacity out.old < length (labelled_text pieces.now labels.now)) }
 {
@@ -106,7 +107,7 @@ fn program_size(pieces: &[Piece]) -> u32
 
 #[tactic(auto, using(crate::proofs::LabelSizes::few_labels))]
 fn symbol_table_size(labels: &[Label<'_>]) -> u32
-    requires names { names_size labels.now ≤ 4194304 }
+    requires names { names_size labels.now ≤ SOURCE_LIMIT }
     ensures { result ≡ symbol_table_size labels.now }
 {
     16 * (labels.len() as u32 + 1)
@@ -114,7 +115,7 @@ fn symbol_table_size(labels: &[Label<'_>]) -> u32
 
 #[tactic(auto, using(crate::proofs::LabelSizes::names_from))]
 fn strings_size(labels: &[Label<'_>]) -> u32
-    requires names { names_size labels.now ≤ 4194304 }
+    requires names { names_size labels.now ≤ SOURCE_LIMIT }
     ensures { result ≡ strings_size labels.now }
 {
     let mut size = 17;
@@ -126,7 +127,7 @@ fn strings_size(labels: &[Label<'_>]) -> u32
 
 #[tactic(auto, unfolding(crate::specs::LabelText::symbol_table_text))]
 fn append_symbol_table(labels: &[Label<'_>], out: &mut Vec<u8>) -> Result<(), AllocError>
-    requires names { names_size labels.now ≤ 4194304 }
+    requires names { names_size labels.now ≤ SOURCE_LIMIT }
     ensures text { OnOk result (out.new.items ≡ out.old.items ++ symbol_table_text labels.now) }
     ensures full { OnErr result (vec_capacity out.old < vec_len out.old + length (symbol_table_text labels.now)) }
     ensures capacity { vec_capacity out.old ≤ vec_capacity out.new }
@@ -138,7 +139,7 @@ fn append_symbol_table(labels: &[Label<'_>], out: &mut Vec<u8>) -> Result<(), Al
 // The names of the labels stand among the strings behind those of the sections.
 #[tactic(auto, using(crate::proofs::LabelSizes::names_from))]
 fn append_symbols(labels: &[Label<'_>], out: &mut Vec<u8>) -> Result<(), AllocError>
-    requires names { names_size labels.now ≤ 4194304 }
+    requires names { names_size labels.now ≤ SOURCE_LIMIT }
     ensures text { OnOk result (out.new.items ≡ out.old.items ++ symbols_text 17 labels.now) }
     ensures full { OnErr result (vec_capacity out.old < vec_len out.old + length (symbols_text 17 labels.now)) }
     ensures capacity { vec_capacity out.old ≤ vec_capacity out.new }

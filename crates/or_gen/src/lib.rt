@@ -3,6 +3,7 @@
 
 ghost use Rattle.std.specs.Prelude.{◌≡◌, ◌≤◌, ◌<◌, ◌+◌, ◌*◌, ◌/◌, ◌++◌, [], codes, length, OnOk, OnErr, vec_capacity, vec_len};
 ghost use Rattle.std.specs.List.{flat_map};
+ghost use Rattle.or_words.specs.declared.limits.TheConstants.{SOURCE_LIMIT};
 ghost use Rattle.or_gen.specs.Workload.{workload, lines_text, number_text, upper_text, lower_text, delay_text, delays_text, next_number, set_up_lines, wait_lines, count_lines, print_lines, end_lines};
 
 use or_text::{append_decimal, append_hexadecimal};
@@ -22,7 +23,7 @@ pub fn program(seed: u32, cores: u32, rounds: u32, out: &mut Vec<u8>) -> Result<
     ensures full { OnErr result (vec_capacity out.old < length (workload seed cores rounds)) }
 
     // What the assembler asks of a source.
-    ensures small { OnOk result (length out.new.items ≤ 4194304) }
+    ensures small { OnOk result (length out.new.items ≤ SOURCE_LIMIT) }
 {
     match append_workload(seed, cores, rounds, out) {
         Ok(()) => Ok(()),

@@ -6,6 +6,7 @@ ghost use Rattle.or_script.specs.Command.{is_word_of_ram, turn_line, last_line, 
 use crate::cutting::cut;
 use crate::operands::{core_number, number};
 use or_words::Config;
+use or_words::limits::MIB;
 
 /// What a line of a script tells the debugger to do.
 #[derive(Clone, Copy, Debug, PartialEq, Eq)]
@@ -47,7 +48,7 @@ const TOO_LARGE: u64 = 1 << 32;
 fn ram_bytes(config: &Config) -> u64
     ensures { result ≡ ram_bytes config.now }
 {
-    u64::from(config.ram) * 1_048_576
+    u64::from(config.ram) * u64::from(MIB)
 }
 
 // Whether the board has a core of this number.

@@ -1,5 +1,6 @@
 //! A script: its commands, or the fault of its first faulty line.
 ghost use Rattle.std.specs.Prelude.{◌≡◌, ◌≤◌, ◌⊎◌, length, Ok, Some, IfOk, MatchResult};
+ghost use Rattle.or_words.specs.declared.limits.TheConstants.{SCRIPT_LIMIT};
 ghost use Rattle.or_script.specs.declared.fault.ScriptFault.TheVariants.{NoMemory};
 ghost use Rattle.std.specs.List.{All};
 ghost use Rattle.or_script.specs.Last.{HasFewTurns};
@@ -104,7 +105,7 @@ pub fn at_line(fault: LineFault, line: u32) -> ScriptFault
 /// Errors: the fault of the first line that has one, BadCommand where the line has none of the forms, else OutOfRange.
 #[tactic(auto, using(crate::proofs::Lines::lines), unfolding(crate::specs::Script::script_of))]
 pub fn check(config: &Config, script: &[u8]) -> Result<(), ScriptFault>
-    requires limit { length script.now ≤ 1048576 }
+    requires limit { length script.now ≤ SCRIPT_LIMIT }
     ensures { IsChecked result (script_of config.now script.now) }
 {
     let mut rest = Some(script);
@@ -131,7 +132,7 @@ pub fn check(config: &Config, script: &[u8]) -> Result<(), ScriptFault>
 /// Errors: the fault that `check` answers; NoMemory.
 #[tactic(auto, using(crate::proofs::Lines::lines), unfolding(crate::specs::Script::script_of))]
 pub fn commands(alloc: Global, config: &Config, script: &[u8]) -> Result<Vec<Command>, ScriptFault>
-    requires limit { length script.now ≤ 1048576 }
+    requires limit { length script.now ≤ SCRIPT_LIMIT }
     ensures script { MatchResult result (λ commands. script_of config.now script.now ≡ Ok commands.items)
         (λ fault. (fault ≡ NoMemory) ⊎ (fault_of (script_of config.now script.now) ≡ Some fault)) }
     ensures few { IfOk result (λ commands. All HasFewTurns commands.items) }
