@@ -78,15 +78,17 @@ is_empty (x ∷ xs) = false
 unfoldable pub is_bracketed : List ℕ → Bool
 is_bracketed text = has 41 (after 40 text) && is_empty (after 41 (after 40 text))
 
--- a label's place, or a number
+-- the place of a label that some line has
 abbrev pub place_at : Option ℕ → Result ℤ Fault
 place_at None = Err UnknownLabel
 place_at (Some place) = Ok (pos place)
 
+-- a number, if the text is one
 abbrev pub plain_at : Option ℤ → Result ℤ Fault
 plain_at None = Err BadLine
 plain_at (Some z) = Ok z
 
+-- the value of a text: a label's place, or a number
 unfoldable pub value_at : Labels → List ℕ → Result ℤ Fault
 value_at labels text = if is_label text then place_at (place_of labels text) else plain_at (number_of text)
 
@@ -105,14 +107,16 @@ abbrev pub half_or : List ℕ → (ℕ → ℕ) → Labels → List ℕ → Resu
 half_or name part labels text = if is_bracketed text && bytes_eq (before_bracket text) name
     then half_at part (bits_of (value_at labels (in_brackets text))) else constant_at text
 
--- the words from pc to a target that is an address of a word, where they fit
+-- how many bytes a target is from pc, as a signed number of 32 bits
 abbrev pub offset_of : ℕ → ℕ → ℤ
 offset_of pc target = cast_signed w32 ((target + 2 ^ 32 - pc) % 2 ^ 32)
 
+-- a quarter of it, rounded down
 abbrev pub quarter : ℤ → ℤ
 quarter (pos n) = pos (n / 4)
 quarter (negsuc n) = negsuc (n / 4)
 
+-- a jump to a target that is the address of a word: the words from pc to it, where its field holds them
 abbrev pub jump_to : ℕ → ℤ → Result Operand Fault
 jump_to pc (negsuc n) = Err OutOfRange
 jump_to pc (pos n) = if nat_le n 4294967295 && n % 4 == 0

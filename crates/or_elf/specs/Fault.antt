@@ -30,7 +30,7 @@ abbrev pub or_else : {F : Type 0} → Option F → Option F → Option F
 or_else (Some fault) next = Some fault
 or_else None next = next
 
--- 1: the ELF header has 52 bytes
+-- fault 1: the ELF header has 52 bytes
 abbrev pub length_fault : List ℕ → Option ElfFault
 length_fault bytes = if nat_lt (length bytes) 52 then Some (Short (length bytes)) else None
 
@@ -40,7 +40,7 @@ first_difference at [] bytes = None
 first_difference at (wanted ∷ others) bytes =
     if slice_index bytes at == wanted then first_difference (at + 1) others bytes else Some (BadIdent at)
 
--- 2: e_ident says ELF, 32 bits, big-endian, version 1
+-- fault 2: e_ident says ELF, 32 bits, big-endian, version 1
 abbrev pub ident_fault : List ℕ → Option ElfFault
 ident_fault bytes = first_difference 0 (0x7F ∷ 0x45 ∷ 0x4C ∷ 0x46 ∷ 1 ∷ 2 ∷ 1 ∷ []) bytes
 
@@ -48,7 +48,7 @@ ident_fault bytes = first_difference 0 (0x7F ∷ 0x45 ∷ 0x4C ∷ 0x46 ∷ 1 �
 abbrev pub field_fault : ℕ → ℕ → ℕ → Option ElfFault
 field_fault field value wanted = if value == wanted then None else Some (BadHeader field value)
 
--- 3: e_type (executable), e_machine (OpenRISC), e_version, e_ehsize, e_phentsize, e_phnum
+-- fault 3: e_type (executable), e_machine (OpenRISC), e_version, e_ehsize, e_phentsize, e_phnum
 abbrev pub header_fault : List ℕ → Option ElfFault
 header_fault bytes =
     or_else (field_fault 16 (half_at bytes 16) 2)
@@ -58,13 +58,13 @@ header_fault bytes =
     (or_else (field_fault 42 (half_at bytes 42) 32)
     (if nat_le (header_count bytes) 64 then None else Some (BadHeader 44 (header_count bytes)))))))
 
--- 4: the program headers, where there are any, end within the file
+-- fault 1 again: the program headers, if there are any, end within the file
 abbrev pub table_fault : List ℕ → Option ElfFault
 table_fault bytes =
     if header_count bytes == 0 then None
     else (if nat_le (table_start bytes + 32 * header_count bytes) (length bytes) then None else Some (Short (length bytes)))
 
--- 6: the first fault of a segment, in a file of so many bytes for so much RAM
+-- faults 5, 6 and 7: the first fault of a segment, in a file of so many bytes for so much RAM
 abbrev pub segment_fault : ℕ → ℕ → Segment → Option ElfFault
 segment_fault size ram segment =
     if not (segment.filesz == 0) && nat_lt size (segment.offset + segment.filesz) then Some (SegmentOutOfFile segment.index (segment.offset + segment.filesz) size)
@@ -75,7 +75,7 @@ abbrev pub first_segment_fault : ℕ → ℕ → List Segment → Option ElfFaul
 first_segment_fault size ram [] = None
 first_segment_fault size ram (segment ∷ others) = or_else (segment_fault size ram segment) (first_segment_fault size ram others)
 
--- 5: there is a segment, and then 6 for each in order
+-- fault 4: there is a segment; then the faults of each, in order
 abbrev pub segments_fault : ℕ → ℕ → List Segment → Option ElfFault
 segments_fault size ram [] = Some NoSegments
 segments_fault size ram (segment ∷ others) = first_segment_fault size ram (segment ∷ others)

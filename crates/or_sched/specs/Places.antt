@@ -1,4 +1,4 @@
--- What completion each place in the text of a recording behind its head, and what a byte makes of a place.
+-- What completes each place in the text of a recording behind its head, and what a byte makes of a place.
 use Rattle.std.specs.Prelude.{◌≡◌, ℕ, ◌-◌, ◌≤◌, ◌<◌, ◌^◌, List, [], ◌∷◌, ◌++◌, Option, Some, None, min, codes, decimal, take, Bool, true, false}
 use Rattle.std.proofs.Common.{inl, inr}
 use Rattle.std.proofs.Props.{props}
@@ -46,7 +46,7 @@ pub record Decoded (decoded : List Item) (P : List (ℕ × ℕ) → Later → Ty
   pub parts : decoded ≡ items all later
   pub holds : P all later
 
--- the text `rest` completion the place, and tells of these runs and marks
+-- the text `rest` completes the place, and tells of these runs and marks
 abbrev pub Completes : Limits → Place → List ℕ → List Item → Type 0
 Completes limits (First block) rest decoded =
     Decoded decoded (λ all later. Opens (Behind limits block.behind) limits.cores limits.cores 15 block.left rest all later)
