@@ -7,6 +7,7 @@ use Rattle.or_model.specs.World.{World}
 use Rattle.or_model.specs.DataAccess.{State}
 use Rattle.or_model.specs.Turn.{Board, turn_begun, turn_ended, turn}
 use Rattle.or_model.proofs.Turns.{Begins, turn_begun-begins}
+use Rattle.or_bus.specs.State.{BusState}
 use Rattle.or_bus.specs.Represents.{Represents}
 use Rattle.or_core.specs.Follows.{IsState, KeepsBus}
 use Rattle.or_replay.specs.Marks.{marks, with_mark}
@@ -149,6 +150,44 @@ module _ (st : Settings) (turns : List ℕ) (c : ℕ) (core : Core) (follows : B
     e.4,
     e.5,
   )
+
+read_again : (old new : BusState) (world : World) → new ≡ record old { reads = new.reads } → Represents old world → Represents new world
+read_again old new world e r = subst (λ (b : BusState). Represents b world) (sym e) (record {
+  ram = r.ram;
+  uart = r.uart;
+  ompic = r.ompic;
+  valid = r.valid;
+  writes = r.writes;
+  lines = r.lines;
+  coherent = r.coherent;
+  reserved = r.reserved;
+  counted = r.counted;
+})
+
+-- how often RAM was read does not matter
+pub begun_again : (st : Settings) (turns : List ℕ) (c : ℕ) (core : Core) (follows : Bool) (old new : Transfer) → HasBusBegun st turns c core follows old
+    → new.bus.value ≡ record old.bus.value { reads = new.bus.value.reads } → new.schedule ≡ old.schedule → new.marks ≡ old.marks → HasBusBegun st turns c core follows new
+begun_again st turns c core follows old new h bus schedule marks_are = let k = h.has.holds in record {
+  before = h.before;
+  has = record {
+    fits = h.has.fits;
+    defined = h.has.defined;
+    below = h.has.below;
+    core_is = h.has.core_is;
+    holds = record {
+      bus = read_again old.bus.value new.bus.value (board_of st turns).world bus k.bus;
+      cores = ap (λ (b : BusState). b.cores) bus ∙ k.cores;
+      schedule = ap (λ s. s.items) schedule ∙ k.schedule;
+      marks = ap (λ m. m.items) marks_are ∙ k.marks;
+      console_room = let e = ap (λ (b : BusState). b.spare) bus in let r = k.console_room in omega arith;
+      schedule_room = let e = ap (λ s. vec_capacity s) schedule in let r = k.schedule_room in omega arith;
+      marks_room = let e = ap (λ m. vec_capacity m) marks_are in let r = k.marks_room in omega arith;
+    };
+  };
+  runs = h.runs;
+  core_is = h.core_is;
+  follows_is = h.follows_is;
+}
 
 -- turns of a stay, and then one more
 pub one_turn_more : (st : Settings) (turns : List ℕ) (c : ℕ) (made : ℕ) (done : Core) (new : Transfer) → HasBus st ((turns ++ replicate made c) ++ c ∷ []) c done new → HasBus st (turns ++ replicate (made + 1) c) c done new

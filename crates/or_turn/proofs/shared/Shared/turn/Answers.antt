@@ -1,4 +1,4 @@
-use Rattle.std.proofs.Common.{rules, ◌≡◌, ℕ, Bool, List, [], ◌∷◌, ◌++◌, map, replicate, get_or, set, length, Option, Some, None, sym, ap, ◌∙◌, subst}
+use Rattle.std.proofs.Common.{rules, ◌≡◌, ℕ, Bool, List, [], ◌∷◌, ◌++◌, map, replicate, get_or, set, length, Option, Some, None, refl, sym, ap, ◌∙◌, subst}
 use Rattle.std.specs.List.{refill}
 use Rattle.atomic_table.specs.Table.{rest}
 use Rattle.or_model.specs.Core.{Core}
@@ -9,7 +9,7 @@ use Rattle.or_turn.specs.Rule.{SlotHolds, settings_of}
 use Rattle.or_turn.specs.Told.{TakesBus, SeatState, holding_view, done_view}
 use Rattle.or_turn.specs.Shown.{core_of, only_of, begun_core, cores_shown, HasBegun, Turned}
 use Rattle.or_turn.specs.Stays.{HasBusBegun, MadeTurns}
-use Rattle.or_turn.proofs.shared.Shared.turn.Goals.{In-Some, After-wait_for_bus, After-index-as_mut_slice-0, After-stay, After-exchange-2, After-fetch_add}
+use Rattle.or_turn.proofs.shared.Shared.turn.Goals.{In-Some, After-wait_for_bus, After-index-as_mut_slice-0, After-stay, After-fetch_add}
 use Rattle.or_turn.proofs.Turning.{finishes}
 use Rattle.or_turn.proofs.Turn as turn
 use Rattle.or_turn.proofs.shared.Shared.turn.Goals as goal
@@ -45,36 +45,40 @@ core_is g c = let h = items_is g (goal.at.After-index-as_mut_slice-0 g c).In-Som
 transfer_is : (g : _) (c : After-index-as_mut_slice-0 g) (tk : TakesBus c.args.unit.now.seat.me.0 c.wait_for_bus.new.seat.me) → c.unwrap-transfer.result ≡ tk.transfer
 transfer_is g c tk = some_is c.unwrap-transfer.result tk.transfer c.exchange.result c.unwrap-transfer.ensures (slot_is c.wait_for_bus.new.seat.me.1 c.exchange.result (Some tk.transfer) _ _ c.exchange.ensures.2 tk.slots)
 
--- the unit's core has the bus, in the middle of its turn
-begun : (g : _) (c : After-index-as_mut_slice-0 g) → let v : View = c.args.unit.now.seat.me.0 in
-    HasBusBegun v.settings (took g (goal.at.After-index-as_mut_slice-0 g c).After-wait_for_bus).schedule (only_of v) (get_or c.as_mut_slice.result.now 0 c.index-as_mut_slice-0.result) c.in-Some.follows c.unwrap-transfer.result
-begun g c = let at = goal.at.After-index-as_mut_slice-0 g c in let v : View = c.args.unit.now.seat.me.0 in let h = has g at.In-Some in let tk = took g at.After-wait_for_bus in
+-- the unit's core has the bus, in the middle of its turn, however often RAM was read meanwhile
+begun : (g : _) (c : After-index-as_mut_slice-0 g) (now : Transfer) → now.bus.value ≡ record c.unwrap-transfer.result.bus.value { reads = now.bus.value.reads }
+    → now.schedule ≡ c.unwrap-transfer.result.schedule → now.marks ≡ c.unwrap-transfer.result.marks → let v : View = c.args.unit.now.seat.me.0 in
+    HasBusBegun v.settings (took g (goal.at.After-index-as_mut_slice-0 g c).After-wait_for_bus).schedule (only_of v) (get_or c.as_mut_slice.result.now 0 c.index-as_mut_slice-0.result) c.in-Some.follows now
+begun g c now bus schedule marks = let at = goal.at.After-index-as_mut_slice-0 g c in let v : View = c.args.unit.now.seat.me.0 in let h = has g at.In-Some in let tk = took g at.After-wait_for_bus in
     let u = transfer_is g c tk in let k = core_is g c in
-    subst (λ (p : Core × Transfer). HasBusBegun v.settings tk.schedule (only_of v) p.0 c.in-Some.follows p.1) (λ i. (sym k i, sym u i)) (turn.taken v _ h _ tk)
+    turn.begun_again _ _ _ _ _ c.unwrap-transfer.result now
+    (subst (λ (p : Core × Transfer). HasBusBegun v.settings tk.schedule (only_of v) p.0 c.in-Some.follows p.1) (λ i. (sym k i, sym u i)) (turn.taken v _ h _ tk))
+    bus schedule marks
 
 pub stay-requires-clause-begun : goal.stay-requires-clause-begun
 stay-requires-clause-begun g c = let at = goal.at.stay-requires-clause-begun g c in let v : View = c.args.unit.now.seat.me.0 in let h = has g at.In-Some in let tk = took g at.After-wait_for_bus in
-    (v.settings, tk.schedule, only_of v, begun g at.After-index-as_mut_slice-0)
+    (v.settings, tk.schedule, only_of v, begun g at.After-index-as_mut_slice-0 _ (search rules) refl refl)
 
 -- the turns of this stay
 stayed : (g : _) (c : After-stay g) → let v : View = c.args.unit.now.seat.me.0 in MadeTurns v.settings (took g (goal.at.After-stay g c).After-wait_for_bus).schedule (only_of v) 1 c.args.most c.stay.new.core c.stay.new.transfer
 stayed g c = let at = goal.at.After-stay g c in let v : View = c.args.unit.now.seat.me.0 in let tk = took g at.After-wait_for_bus in
-    c.stay.ensures v.settings tk.schedule (only_of v) (begun g at.After-index-as_mut_slice-0)
+    c.stay.ensures v.settings tk.schedule (only_of v) (begun g at.After-index-as_mut_slice-0 _ (search rules) refl refl)
 
--- the slot that is given back
-carried : (g : _) (c : After-exchange-2 g) (tk : TakesBus c.args.unit.now.seat.me.0 c.wait_for_bus.new.seat.me) → c.exchange-2.new.seat.me ≡ (holding_view c.args.unit.now.seat.me.0 tk.schedule, (0, Some c.stay.new.transfer) ∷ [])
-carried g c tk = let a = c.exchange.ensures.3 in let b = c.exchange-2.ensures.3 in
-    b ∙ ap (λ (m : SeatState). let r : SeatState = (m.0, (0, Some c.stay.new.transfer) ∷ rest m.1) in r) (a ∙ ap (λ (m : SeatState). let r : SeatState = (m.0, (0, None) ∷ rest m.1) in r) (λ i. (tk.view i, tk.slots i)))
+-- what a seat has that took the slot out and put it back
+put_is : (m m' m'' : SeatState) (v : View) (out put : Transfer) → m' ≡ (m.0, (0, None) ∷ rest m.1) → m'' ≡ (m'.0, (0, Some put) ∷ rest m'.1) → m.0 ≡ v → m.1 ≡ (0, Some out) ∷ []
+    → m'' ≡ (v, (0, Some put) ∷ [])
+put_is m m' m'' v out put a b view slots = b ∙ ap (λ (x : SeatState). let r : SeatState = (x.0, (0, Some put) ∷ rest x.1) in r)
+    (a ∙ ap (λ (x : SeatState). let r : SeatState = (x.0, (0, None) ∷ rest x.1) in r) (λ i. (view i, slots i)))
 
 pub fetch_add-requires : goal.fetch_add-requires
 fetch_add-requires g c = let at = goal.at.fetch_add-requires g c in let v : View = c.args.unit.now.seat.me.0 in let h = has g at.In-Some in let tk = took g at.After-wait_for_bus in
-    let e = carried g at.After-exchange-2 tk in let m = stayed g at.After-stay in let same : c.exchange-2.new.seat.me.0 ≡ holding_view v tk.schedule = ap (λ (x : SeatState). x.0) e in (
+    let e = put_is _ _ _ _ _ _ c.exchange.ensures.3 c.exchange-2.ensures.3 tk.view tk.slots in let m = stayed g at.After-stay in let same : c.exchange-2.new.seat.me.0 ≡ holding_view v tk.schedule = ap (λ (x : SeatState). x.0) e in (
       search rules,
       search rules,
       finishes (settings_of c.args.self.now.table.shared.key) _ _ c.exchange-2.new.seat.me
           (only_of v)
           m.made
-          c.stay.new.transfer
+          _
           (ap (λ (x : View). x.stage) same)
           (ap (λ (x : View). x.cores) same ∙ h.0)
           (ap (λ (x : SeatState). x.1) e)
@@ -85,7 +89,7 @@ fetch_add-requires g c = let at = goal.at.fetch_add-requires g c in let v : View
 
 after_is : (g : _) (c : After-fetch_add g) (tk : TakesBus c.args.unit.now.seat.me.0 c.wait_for_bus.new.seat.me)
     → c.fetch_add.new.seat.me ≡ (done_view (holding_view c.args.unit.now.seat.me.0 tk.schedule) c.stay.new.transfer.schedule.items, [])
-after_is g c tk = let e = carried g (goal.at.After-fetch_add g c).After-exchange-2 tk in let told = c.fetch_add.ensures.2 in let gives = told.1 c.stay.new.transfer (ap (λ (m : SeatState). m.1) e) in
+after_is g c tk = let e = put_is _ _ _ _ _ _ c.exchange.ensures.3 c.exchange-2.ensures.3 tk.view tk.slots in let told = c.fetch_add.ensures.2 in let gives = told.1 _ (ap (λ (m : SeatState). m.1) e) in
     (λ i. (gives i, told.0 i)) ∙ ap (λ (m : SeatState). let r : SeatState = (done_view m.0 c.stay.new.transfer.schedule.items, []) in r) e
 
 pub invariant_of-unit : goal.invariant_of-unit
