@@ -12,7 +12,7 @@ use Rattle.or_sched.specs.RunRests.{Follow, left_after}
 use Rattle.or_sched.specs.Blocks.{Item, run_item, mark_line}
 use Rattle.or_sched.specs.BlockRests.{Later, items, later_items, Behind, behind_of}
 use Rattle.or_sched.specs.Places.{Completes, AreLimits}
-use Rattle.or_sched.specs.Body.{IsBody2}
+use Rattle.or_sched.proofs.Body.{IsBody2}
 use Rattle.or_sched.specs.Blocks.{blocks_text, blocks_items}
 use Rattle.or_sched.specs.Schedule.{AreMarksAfter}
 use Rattle.or_sched.specs.Blocks.{turns_of, marks_of}

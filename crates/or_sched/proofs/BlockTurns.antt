@@ -8,11 +8,12 @@ use Rattle.or_sched.specs.declared.places.Limits.{Limits}
 use Rattle.or_sched.specs.declared.recording.Mark.{Mark}
 use Rattle.or_sched.specs.declared.places.Place.TheVariants.{First}
 use Rattle.or_sched.specs.Runs.{expand, block_text, lines_text}
-use Rattle.or_sched.specs.RunRests.{Follow, left_after, AtRun}
+use Rattle.or_sched.specs.RunRests.{Follow, left_after}
+use Rattle.or_sched.proofs.RunPlaces.{AtRun}
 use Rattle.or_sched.specs.Blocks.{Item, mark_line}
 use Rattle.or_sched.specs.BlockRests.{Later, items, later_items, Behind, behind_of}
 use Rattle.or_sched.specs.Places.{Completes, AreLimits}
-use Rattle.or_sched.specs.Body.{IsBody2}
+use Rattle.or_sched.proofs.Body.{IsBody2}
 use Rattle.or_sched.specs.Blocks.{blocks_text}
 use Rattle.or_sched.specs.Schedule.{AreMarksAfter}
 use Rattle.or_sched.specs.Blocks.{turns_of, marks_of}

@@ -7,11 +7,12 @@ use Rattle.std.proofs.lemmas.List.Elements.{recursion_from_All, All-from_recursi
 use Rattle.or_sched.specs.declared.places.Limits.{Limits}
 use Rattle.or_sched.specs.declared.places.Place.TheVariants.{First}
 use Rattle.or_sched.specs.Runs.{expand, runs, runs_after, lines_text}
-use Rattle.or_sched.specs.RunRests.{Follow, AtRun, Opens}
+use Rattle.or_sched.specs.RunRests.{Follow, Opens}
+use Rattle.or_sched.proofs.RunPlaces.{AtRun}
 use Rattle.or_sched.specs.Blocks.{Item, run_item}
 use Rattle.or_sched.specs.BlockRests.{Later, items, later_items, Behind}
 use Rattle.or_sched.specs.Places.{Completes}
-use Rattle.or_sched.specs.Body.{IsBody1}
+use Rattle.or_sched.proofs.Body.{IsBody1}
 use Rattle.or_sched.specs.Blocks.{turns_of}
 use Rattle.or_sched.proofs.Steps.{opened, letter_back}
 use Rattle.or_sched.proofs.Bridge.{AreTurns, AreRuns, runs_are, block_of_runs, expand_turns, expand_length}

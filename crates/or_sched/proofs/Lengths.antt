@@ -6,7 +6,8 @@ use Rattle.or_sched.specs.declared.places.Limits.{Limits}
 use Rattle.or_sched.specs.declared.places.Block.{Block}
 use Rattle.or_sched.specs.declared.places.Place.TheVariants.{First}
 use Rattle.or_sched.specs.Runs.{count_text, run_text, lines_text}
-use Rattle.or_sched.specs.RunRests.{Follow, left_after, AtRun}
+use Rattle.or_sched.specs.RunRests.{Follow, left_after}
+use Rattle.or_sched.proofs.RunPlaces.{AtRun}
 use Rattle.or_sched.specs.Blocks.{Item, mark_line}
 use Rattle.or_sched.specs.BlockRests.{Later, Behind, behind_of}
 use Rattle.or_sched.specs.Places.{Completes, AreLimits, IsSound, IsNumberBelow}

@@ -1,3 +1,5 @@
+pub mod Body
+pub mod RunPlaces
 pub mod RunLemmas
 pub mod ExpandLemmas
 pub mod Numbers

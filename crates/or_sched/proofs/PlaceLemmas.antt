@@ -7,7 +7,8 @@ use Rattle.or_sched.specs.declared.places.Block.{Block}
 use Rattle.or_sched.specs.declared.places.Place.{Place}
 use Rattle.or_sched.specs.declared.places.Place.TheVariants.{Line, Word, Done}
 use Rattle.or_sched.specs.Runs.{lines_text}
-use Rattle.or_sched.specs.RunRests.{AtRun, AtLine, AtEnd}
+use Rattle.or_sched.specs.RunRests.{AtLine, AtEnd}
+use Rattle.or_sched.proofs.RunPlaces.{AtRun}
 use Rattle.or_sched.specs.Blocks.{Item, mark_line}
 use Rattle.or_sched.specs.BlockRests.{Later, items, later_items, Behind, behind_of}
 use Rattle.or_sched.specs.Places.{Decoded, Marked, Onward, AreLimits, Leads}

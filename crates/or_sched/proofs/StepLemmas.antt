@@ -5,7 +5,8 @@ use Rattle.or_sched.specs.declared.places.Block.{Block}
 use Rattle.or_sched.specs.declared.places.Begun.{Begun}
 use Rattle.or_sched.specs.declared.places.Place.{Place}
 use Rattle.or_sched.specs.declared.places.Place.TheVariants.{First, Run, Line, Writes, Console}
-use Rattle.or_sched.specs.RunRests.{InRun, AtRun, AtLine}
+use Rattle.or_sched.specs.RunRests.{InRun, AtLine}
+use Rattle.or_sched.proofs.RunPlaces.{AtRun}
 use Rattle.or_sched.specs.BlockRests.{Later, items, Behind}
 use Rattle.or_sched.specs.Places.{Decoded, Marked, Onward, IsSound, AreLimits, Leads, StepKeeps, StepRefuses, OpenIs, DigitIs, DigitTo}
 use Rattle.or_sched.proofs.Steps.{digit_on, digit_back, run_on, run_back}

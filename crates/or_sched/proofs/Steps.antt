@@ -2,7 +2,8 @@
 use Rattle.std.proofs.Common.{◌≡◌, ◌≢◌, ◌∙◌, sym, ap, subst, ℕ, zero, suc, List, ◌++◌, ◌∷◌, [], ◌+◌, ◌-◌, ◌*◌, ◌^◌, ◌≤◌, ◌<◌, max, decimal, append_assoc, arith, refl, length, get_or, length-append, append-nil, inl, inr}
 use Rattle.std.proofs.lemmas.Fmt.{first_decimal, decimal_nonempty, decimal_injective}
 use Rattle.or_sched.specs.Runs.{count_text, lines_text}
-use Rattle.or_sched.specs.RunRests.{number_text, Follow, left_after, InRun, Opens, AtRun, AtLine, AtEnd}
+use Rattle.or_sched.specs.RunRests.{number_text, Follow, left_after, InRun, Opens, AtLine, AtEnd}
+use Rattle.or_sched.proofs.RunPlaces.{AtRun}
 use Rattle.or_sched.proofs.Numbers.{front_le, front_more, behind_digit, number_digit}
 
 pub count_many : (n : ℕ) → n ≢ 1 → count_text n ≡ decimal n

@@ -18,7 +18,7 @@ use Rattle.or_sched.specs.Runs.{runs, expand, block_text}
 use Rattle.or_sched.specs.Blocks.{Item, run_item, blocks_items, blocks_text, turns_of, marks_of}
 use Rattle.or_sched.specs.BlockRests.{later_items, behind_of, Behind as BehindBlock}
 use Rattle.or_sched.specs.Places.{Completes, AreLimits}
-use Rattle.or_sched.specs.Body.{IsBody1, IsBody2}
+use Rattle.or_sched.proofs.Body.{IsBody1, IsBody2}
 use Rattle.or_sched.specs.Recording.{IsHead, IsRecording1, IsRecording2, IsRecording}
 use Rattle.or_sched.specs.Reading.{HeadRead, head_of, limits_of, first_of, first_block_of}
 use Rattle.or_sched.proofs.ExpandLemmas.{expand_runs}

@@ -7,7 +7,6 @@ pub mod RunRests
 pub mod BlockRests
 pub mod Places
 pub mod Ended
-pub mod Body
 pub mod HeadPlaces
 pub mod HeadLines
 pub mod Recording

@@ -43,13 +43,6 @@ pub record Opens {R : Type 0} (After : ℕ → List ℕ → R → Type 0) (cores
   pub differs : next ≢ core
   pub run : InRun After cores next 0 room left more all later
 
--- Behind the text of a run, with room for `room` runs behind it in its line: `rest` goes on with the runs `all`.
-pub record AtRun {R : Type 0} (After : ℕ → List ℕ → R → Type 0) (cores core room left : ℕ) (rest : List ℕ) (all : List (ℕ × ℕ)) (later : R) : Type 0 where
-  pub after : List ℕ
-  pub text : rest ≡ lines_text room all ++ after
-  pub follow : Follow cores core left all
-  pub behind : After (left_after left all) after later
-
 -- Behind a line feed that ended a full line: the block is at its end, or a letter comes.
 abbrev pub AtLine : {R : Type 0} → (ℕ → List ℕ → R → Type 0) → ℕ → ℕ → ℕ → List ℕ → List (ℕ × ℕ) → R → Type 0
 AtLine After cores core left rest all later = ((all ≡ []) × After left rest later) ⊎ Opens After cores core 15 left rest all later

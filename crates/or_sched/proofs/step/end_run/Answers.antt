@@ -1,6 +1,7 @@
 use Rattle.std.proofs.Common.{arith, ◌≡◌, ◌≢◌, ◌+◌, ◌-◌, ◌∷◌, sym, subst, ℕ, zero, suc, List}
 use Rattle.or_sched.specs.BlockRests.{Behind}
-use Rattle.or_sched.specs.RunRests.{AtRun, AtLine, AtEnd, InRun, Opens}
+use Rattle.or_sched.specs.RunRests.{AtLine, AtEnd, InRun, Opens}
+use Rattle.or_sched.proofs.RunPlaces.{AtRun}
 use Rattle.or_sched.specs.declared.places.Place.TheVariants.{Run}
 use Rattle.or_sched.proofs.Steps.{at_full, at_letter, letter_back, feed_full, feed_short, full_back, short_back}
 use Rattle.or_sched.proofs.StepLemmas.{end_dooms, end_moves, run_leads}
