@@ -1,8 +1,8 @@
 use Rattle.std.proofs.Common.{◌≡◌, ap, ◌∙◌, rules}
 use Rattle.std.specs.List.{filter}
 use Rattle.std.proofs.lemmas.Fn.{filter_same}
-use Rattle.or_host.specs.Given.{given, is_other}
-use Rattle.or_host.proofs.GivenLemmas.{given_none, given_other}
+use Rattle.or_host.specs.Given.{given}
+use Rattle.or_host.proofs.GivenLemmas.{is_other, given_none, given_other}
 use Rattle.or_host.proofs.sure.forget.Goals as goal
 
 pub returns-clause-own : goal.returns-clause-own
