@@ -5,6 +5,7 @@ use Rattle.std.proofs.lemmas.List.{drop-drop}
 use Rattle.std.proofs.lemmas.Bool.Decides.{nat_tests}
 use Rattle.or_model.specs.declared.Stop.{Stop}
 use Rattle.or_model.specs.Core.{Core}
+use Rattle.or_model.specs.World.{World}
 use Rattle.or_model.specs.Step.{is_private, private_step}
 use Rattle.or_model.specs.Trace.{trace_within, bus_trace, private_trace, turn_trace}
 use Rattle.or_model.specs.Turn.{Board, Begun, begun_within, turn_begun, turn, with_core, board_turned, board_turned_by, running}
@@ -13,8 +14,13 @@ use Rattle.or_bus.specs.Represents.{Represents}
 use Rattle.or_core.proofs.Begins.{begun_within-more, begun_within-waits, begun_within-stops, begun_within-end}
 use Rattle.or_core.proofs.Traces.{trace_within-more, trace_within-waits, trace_within-stops, trace_within-end}
 use Rattle.or_replay.specs.declared.stepping.Breakpoint.{Breakpoint}
-use Rattle.or_replay.specs.Board.{IsBoard, left_of}
-use Rattle.or_replay.specs.Stepping.{stepped, with_steps, board_stepped, is_hit, hits_any, first_from, step_hit, board_step_hit, rest_trace, IsInside, HasBegun, IsCoreUntil, IsTurnedUntil}
+use Rattle.or_replay.specs.Board.{IsBoard, IsInOrder, left_of}
+use Rattle.or_replay.specs.Stepping.{stepped, with_steps, board_stepped, is_hit, hits_any, is_pause, first_from, step_pause, board_step_pause, rest_trace, IsInside, HasBegun, IsCoreEnded, IsCoreUntil, IsTurnedUntil}
+use Rattle.or_replay.specs.declared.stepping.Until.{Until}
+use Rattle.or_replay.specs.declared.stepping.Until.TheVariants.{Inside, Ended}
+use Rattle.or_replay.specs.Watching.{board_access}
+use Rattle.or_bus.specs.declared.access.Access.{Access}
+use Rattle.or_core.specs.Access.{turn_access}
 use Rattle.or_replay.proofs.Turning.{get_set, one_core}
 
 rest_more : (left : ℕ) (core : Core) → 0 < left → core.stop ≡ None → is_private core ≡ true → rest_trace left core ≡ core.pc ∷ rest_trace (left - 1) (private_step core)
@@ -72,17 +78,17 @@ inside_more first old new steps inside few runs alone is =
           ∙ ap (λ n. begun_within n (private_step old)) fewer ∙ ap (begun_within (256 - (steps + 1))) (sym is);
     }
 
-hit_tail : (points : List Breakpoint) (c : ℕ) (first : Core) (steps : ℕ) (pc : ℕ) (more : List ℕ) → drop (steps + 1) (turn_trace first) ≡ pc ∷ more
-    → step_hit points c first steps ≡ cond (hits_any points c pc) (Some (steps + 1)) (step_hit points c first (steps + 1))
-unfolding step_hit
-hit_tail points c first steps pc more is =
-    ap (first_from (hits_any points c) (steps + 1)) is
-    ∙ ap (λ l. cond (hits_any points c pc) (Some (steps + 1)) (first_from (hits_any points c) (steps + 1 + 1) l))
+hit_tail : (points : List Breakpoint) (most : Option ℕ) (c : ℕ) (first : Core) (steps : ℕ) (pc : ℕ) (more : List ℕ) → drop (steps + 1) (turn_trace first) ≡ pc ∷ more
+    → step_pause points most c first steps ≡ cond (is_pause points most c (steps + 1) pc) (Some (steps + 1)) (step_pause points most c first (steps + 1))
+unfolding step_pause
+hit_tail points most c first steps pc more is =
+    ap (first_from (is_pause points most c) (steps + 1)) is
+    ∙ ap (λ l. cond (is_pause points most c (steps + 1) pc) (Some (steps + 1)) (first_from (is_pause points most c) (steps + 1 + 1) l))
     (sym (drop_tail (steps + 1) (turn_trace first) ∙ ap (drop 1) is))
 
-none_behind : (points : List Breakpoint) (c : ℕ) (first : Core) (steps : ℕ) → drop (steps + 1) (turn_trace first) ≡ [] → step_hit points c first steps ≡ None
-unfolding step_hit
-none_behind points c first steps is = ap (first_from (hits_any points c) (steps + 1)) is
+none_behind : (points : List Breakpoint) (most : Option ℕ) (c : ℕ) (first : Core) (steps : ℕ) → drop (steps + 1) (turn_trace first) ≡ [] → step_pause points most c first steps ≡ None
+unfolding step_pause
+none_behind points most c first steps is = ap (first_from (is_pause points most c) (steps + 1)) is
 
 drop_none : (n : ℕ) (xs : List ℕ) → drop n xs ≡ [] → drop (n + 1) xs ≡ []
 drop_none n xs is = drop_tail n xs ∙ ap (drop 1) is
@@ -96,60 +102,60 @@ by_hit_true true a b _ = refl
 by_hit_true false a b is = absurd (let b : ⊥ = cc in b)
 
 -- the step that was made hits a breakpoint
-pub hit_here : (points : List Breakpoint) (c : ℕ) (first core : Core) (steps : ℕ) → IsInside first (steps + 1) core → steps + 1 < 256 → core.stop ≡ None → hits_any points c core.pc ≡ true
-    → step_hit points c first steps ≡ Some (steps + 1)
-hit_here points c first core steps inside few runs hit =
+pub hit_here : (points : List Breakpoint) (most : Option ℕ) (c : ℕ) (first core : Core) (steps : ℕ) → IsInside first (steps + 1) core → steps + 1 < 256 → core.stop ≡ None → is_pause points most c (steps + 1) core.pc ≡ true
+    → step_pause points most c first steps ≡ Some (steps + 1)
+hit_here points most c first core steps inside few runs hit =
     let rest = rest_some (256 - (steps + 1)) core (omega arith) runs in
-    hit_tail points c first steps core.pc rest.0 (inside.trace ∙ rest.1) ∙ by_hit_true (hits_any points c core.pc) (Some (steps + 1)) (step_hit points c first (steps + 1)) hit
+    hit_tail points most c first steps core.pc rest.0 (inside.trace ∙ rest.1) ∙ by_hit_true (is_pause points most c (steps + 1) core.pc) (Some (steps + 1)) (step_pause points most c first (steps + 1)) hit
 
 -- or hits none
-pub hit_later : (points : List Breakpoint) (c : ℕ) (first core : Core) (steps : ℕ) → IsInside first (steps + 1) core → steps + 1 < 256 → core.stop ≡ None → hits_any points c core.pc ≡ false
-    → step_hit points c first steps ≡ step_hit points c first (steps + 1)
-hit_later points c first core steps inside few runs hit =
+pub hit_later : (points : List Breakpoint) (most : Option ℕ) (c : ℕ) (first core : Core) (steps : ℕ) → IsInside first (steps + 1) core → steps + 1 < 256 → core.stop ≡ None → is_pause points most c (steps + 1) core.pc ≡ false
+    → step_pause points most c first steps ≡ step_pause points most c first (steps + 1)
+hit_later points most c first core steps inside few runs hit =
     let rest = rest_some (256 - (steps + 1)) core (omega arith) runs in
-    hit_tail points c first steps core.pc rest.0 (inside.trace ∙ rest.1) ∙ by_hit (hits_any points c core.pc) (Some (steps + 1)) (step_hit points c first (steps + 1)) hit
+    hit_tail points most c first steps core.pc rest.0 (inside.trace ∙ rest.1) ∙ by_hit (is_pause points most c (steps + 1) core.pc) (Some (steps + 1)) (step_pause points most c first (steps + 1)) hit
 
 -- or was the last one
-pub hit_none : (points : List Breakpoint) (c : ℕ) (first core : Core) (steps : ℕ) → IsInside first steps core → 256 ≤ steps → step_hit points c first steps ≡ None
-hit_none points c first core steps inside all =
-    none_behind points c first steps (drop_none steps (turn_trace first) (inside.trace ∙ rest_end (256 - steps) core (omega arith)))
+pub hit_none : (points : List Breakpoint) (most : Option ℕ) (c : ℕ) (first core : Core) (steps : ℕ) → IsInside first steps core → 256 ≤ steps → step_pause points most c first steps ≡ None
+hit_none points most c first core steps inside all =
+    none_behind points most c first steps (drop_none steps (turn_trace first) (inside.trace ∙ rest_end (256 - steps) core (omega arith)))
 
-pub hit_stopped : (points : List Breakpoint) (c : ℕ) (first core : Core) (steps : ℕ) → IsInside first steps core → steps < 256 → is_none core.stop ≡ false → step_hit points c first steps ≡ None
-hit_stopped points c first core steps inside few stopped =
-    none_behind points c first steps (drop_none steps (turn_trace first) (inside.trace ∙ rest_stops (256 - steps) core (omega arith) stopped))
+pub hit_stopped : (points : List Breakpoint) (most : Option ℕ) (c : ℕ) (first core : Core) (steps : ℕ) → IsInside first steps core → steps < 256 → is_none core.stop ≡ false → step_pause points most c first steps ≡ None
+hit_stopped points most c first core steps inside few stopped =
+    none_behind points most c first steps (drop_none steps (turn_trace first) (inside.trace ∙ rest_stops (256 - steps) core (omega arith) stopped))
 
-pub hit_waits : (points : List Breakpoint) (c : ℕ) (first core : Core) (steps : ℕ) → IsInside first steps core → steps < 256 → core.stop ≡ None → is_private core ≡ false
-    → step_hit points c first steps ≡ None
-hit_waits points c first core steps inside few runs waits =
-    none_behind points c first steps (drop_tail steps (turn_trace first) ∙ ap (drop 1) (inside.trace ∙ rest_waits (256 - steps) core (omega arith) runs waits))
+pub hit_waits : (points : List Breakpoint) (most : Option ℕ) (c : ℕ) (first core : Core) (steps : ℕ) → IsInside first steps core → steps < 256 → core.stop ≡ None → is_private core ≡ false
+    → step_pause points most c first steps ≡ None
+hit_waits points most c first core steps inside few runs waits =
+    none_behind points most c first steps (drop_tail steps (turn_trace first) ∙ ap (drop 1) (inside.trace ∙ rest_waits (256 - steps) core (omega arith) runs waits))
 
 -- the last step of a turn hits nothing inside it
-pub hit_last : (points : List Breakpoint) (c : ℕ) (first core : Core) (steps : ℕ) → IsInside first (steps + 1) core → 256 ≤ steps + 1 → step_hit points c first steps ≡ step_hit points c first (steps + 1)
-hit_last points c first core steps inside all =
-    none_behind points c first steps (inside.trace ∙ rest_end (256 - (steps + 1)) core (omega arith)) ∙ sym (hit_none points c first core (steps + 1) inside all)
+pub hit_last : (points : List Breakpoint) (most : Option ℕ) (c : ℕ) (first core : Core) (steps : ℕ) → IsInside first (steps + 1) core → 256 ≤ steps + 1 → step_pause points most c first steps ≡ step_pause points most c first (steps + 1)
+hit_last points most c first core steps inside all =
+    none_behind points most c first steps (inside.trace ∙ rest_end (256 - (steps + 1)) core (omega arith)) ∙ sym (hit_none points most c first core (steps + 1) inside all)
 
 -- nor does one that stops the core
-pub hit_stops : (points : List Breakpoint) (c : ℕ) (first core : Core) (steps : ℕ) → IsInside first (steps + 1) core → steps + 1 < 256 → is_none core.stop ≡ false
-    → step_hit points c first steps ≡ step_hit points c first (steps + 1)
-hit_stops points c first core steps inside few stopped =
-    none_behind points c first steps (inside.trace ∙ rest_stops (256 - (steps + 1)) core (omega arith) stopped)
-    ∙ sym (hit_stopped points c first core (steps + 1) inside few stopped)
+pub hit_stops : (points : List Breakpoint) (most : Option ℕ) (c : ℕ) (first core : Core) (steps : ℕ) → IsInside first (steps + 1) core → steps + 1 < 256 → is_none core.stop ≡ false
+    → step_pause points most c first steps ≡ step_pause points most c first (steps + 1)
+hit_stops points most c first core steps inside few stopped =
+    none_behind points most c first steps (inside.trace ∙ rest_stops (256 - (steps + 1)) core (omega arith) stopped)
+    ∙ sym (hit_stopped points most c first core (steps + 1) inside few stopped)
 
-passed_by : (points : List Breakpoint) (c : ℕ) (first core : Core) (made : ℕ) (few runs hit : Bool) → IsInside first (made + 1) core → ltb (made + 1) 256 ≡ few → is_none core.stop ≡ runs
-    → hits_any points c core.pc ≡ hit → (few && (runs && hit)) ≡ false → step_hit points c first made ≡ step_hit points c first (made + 1)
-passed_by points c first core made false runs hit inside is_few is_run is_hit passes = hit_last points c first core made inside (grind (arith, nat_tests))
-passed_by points c first core made true false hit inside is_few is_run is_hit passes = hit_stops points c first core made inside (grind (arith, nat_tests)) is_run
-passed_by points c first core made true true false inside is_few is_run is_hit passes = hit_later points c first core made inside (grind (arith, nat_tests)) (runs_of core.stop is_run) is_hit
-passed_by points c first core made true true true inside is_few is_run is_hit passes = absurd (let b : ⊥ = cc in b)
+passed_by : (points : List Breakpoint) (most : Option ℕ) (c : ℕ) (first core : Core) (made : ℕ) (few runs hit : Bool) → IsInside first (made + 1) core → ltb (made + 1) 256 ≡ few → is_none core.stop ≡ runs
+    → is_pause points most c (made + 1) core.pc ≡ hit → (few && (runs && hit)) ≡ false → step_pause points most c first made ≡ step_pause points most c first (made + 1)
+passed_by points most c first core made false runs hit inside is_few is_run is_hit passes = hit_last points most c first core made inside (grind (arith, nat_tests))
+passed_by points most c first core made true false hit inside is_few is_run is_hit passes = hit_stops points most c first core made inside (grind (arith, nat_tests)) is_run
+passed_by points most c first core made true true false inside is_few is_run is_hit passes = hit_later points most c first core made inside (grind (arith, nat_tests)) (runs_of core.stop is_run) is_hit
+passed_by points most c first core made true true true inside is_few is_run is_hit passes = absurd (let b : ⊥ = cc in b)
 
 -- a step that does not pause a turn hits nothing inside it
-pub passed : (points : List Breakpoint) (c : ℕ) (first core : Core) (steps made : ℕ) → steps ≡ made + 1 → IsInside first steps core
-    → (ltb steps 256 && (is_none core.stop && hits_any points c core.pc)) ≡ false → step_hit points c first made ≡ step_hit points c first steps
-passed points c first core steps made is inside passes =
+pub passed : (points : List Breakpoint) (most : Option ℕ) (c : ℕ) (first core : Core) (steps made : ℕ) → steps ≡ made + 1 → IsInside first steps core
+    → (ltb steps 256 && (is_none core.stop && is_pause points most c steps core.pc)) ≡ false → step_pause points most c first made ≡ step_pause points most c first steps
+passed points most c first core steps made is inside passes =
     let inside_one : IsInside first (made + 1) core = subst (λ n. IsInside first n core) is inside in
-    passed_by points c first core made (ltb (made + 1) 256) (is_none core.stop) (hits_any points c core.pc) inside_one refl refl refl
-    (ap (λ n. ltb n 256 && (is_none core.stop && hits_any points c core.pc)) (sym is) ∙ passes)
-    ∙ ap (step_hit points c first) (sym is)
+    passed_by points most c first core made (ltb (made + 1) 256) (is_none core.stop) (is_pause points most c (made + 1) core.pc) inside_one refl refl refl
+    (ap (λ n. ltb n 256 && (is_none core.stop && is_pause points most c n core.pc)) (sym is) ∙ passes)
+    ∙ ap (step_pause points most c first) (sym is)
 
 -- where the private steps end
 pub begun_waits : (first core : Core) (steps : ℕ) → IsInside first steps core → steps < 256 → core.stop ≡ None → is_private core ≡ false → turn_begun first ≡ record { core = core; follows = true }
@@ -180,35 +186,39 @@ turned_of before c first next at runs is =
     ap (λ o. board_turned_by before c (running o)) at
     ∙ ap (λ (s : Option Stop). board_turned_by before c (cond (is_none s) (Some first) None)) runs ∙ ap Some (sym is)
 
-hit_of : (points : List Breakpoint) (before : Board) (c steps : ℕ) (first : Core) (hit : Option ℕ) → slice_get before.cores c ≡ Some first → step_hit points c first steps ≡ hit
-    → board_step_hit points before c steps ≡ hit
-unfolding board_step_hit
-hit_of points before c steps first hit at is = ap (option_and_then (λ core. step_hit points c core steps)) at ∙ is
+pause_of : (points : List Breakpoint) (most : Option ℕ) (before : Board) (c steps : ℕ) (first : Core) (pause : Option ℕ) → slice_get before.cores c ≡ Some first → step_pause points most c first steps ≡ pause
+    → board_step_pause points most before c steps ≡ pause
+unfolding board_step_pause
+pause_of points most before c steps first pause at is = ap (option_and_then (λ core. step_pause points most c core steps)) at ∙ is
 
-pub turned_until : (points : List Breakpoint) (before : Board) (c steps : ℕ) (result : Option ℕ) (cores : List Core) (old new : Core) (bus new_bus : BusState)
-    → HasBegun before c steps cores bus → slice_get cores c ≡ Some old → ((first : Core) → IsInside first steps old → IsCoreUntil points c first steps result bus new new_bus)
-    → IsTurnedUntil points before c steps result (slice_set cores c new) new_bus
-turned_until points before c steps None cores old new bus new_bus begun at until =
+access_of : (before : Board) (c : ℕ) (first : Core) (access : Option Access) → slice_get before.cores c ≡ Some first → access ≡ turn_access first before.world → access ≡ board_access before c
+unfolding board_access
+access_of before c first access at is = is ∙ sym (ap (option_and_then (λ (core : Core). turn_access core before.world)) at)
+
+pub turned_until : (points : List Breakpoint) (most : Option ℕ) (before : Board) (c steps : ℕ) (result : Until) (cores : List Core) (old new : Core) (bus forgotten new_bus : BusState)
+    → HasBegun before c steps cores bus → ((world : World) → Represents bus world → Represents forgotten world) → slice_get cores c ≡ Some old
+    → ((first : Core) → IsInside first steps old → IsCoreUntil points most c first steps result forgotten new new_bus)
+    → IsTurnedUntil points most before c steps result (slice_set cores c new) new_bus
+turned_until points most before c steps (Ended access) cores old new bus forgotten new_bus begun forgets at until =
     let same = at_place cores c begun.core old before.cores begun.first begun.at begun.cores_are at in
     let made = until begun.first (subst (λ (k : Core). IsInside begun.first steps k) same begun.goes_on.inside) in
-    let state = made.1 before.world begun.represents in
-    let next = with_core before c (turn begun.first before.world) in (
-      hit_of points before c steps begun.first None begun.at made.0,
-      (
-        next,
-        (
-          turned_of before c begun.first next begun.at begun.running refl,
-          record {
-            same_cores = cores_after cores before.cores c begun.core new begun.cores_are ∙ ap (slice_set before.cores c) state.0;
-            represents = state.1;
-          },
-        ),
-      ),
+    let represents = forgets before.world begun.represents in
+    let state = made.1.state before.world represents in (
+      pause_of points most before c steps begun.first None begun.at made.0,
+      record {
+        next = with_core before c (turn begun.first before.world);
+        turned = turned_of before c begun.first (with_core before c (turn begun.first before.world)) begun.at begun.running refl;
+        is = record {
+          same_cores = cores_after cores before.cores c begun.core new begun.cores_are ∙ ap (slice_set before.cores c) state.0;
+          represents = state.1;
+        };
+        access_is = access_of before c begun.first access begun.at (made.1.access_is before.world represents);
+      },
     )
-turned_until points before c steps (Some stop) cores old new bus new_bus begun at until =
+turned_until points most before c steps (Inside stop) cores old new bus forgotten new_bus begun forgets at until =
     let same = at_place cores c begun.core old before.cores begun.first begun.at begun.cores_are at in
     let made = until begun.first (subst (λ (k : Core). IsInside begun.first steps k) same begun.goes_on.inside) in (
-      hit_of points before c steps begun.first (Some stop) begun.at made.0,
+      pause_of points most before c steps begun.first (Some stop) begun.at made.0,
       record {
         first = begun.first;
         at = begun.at;
@@ -216,9 +226,14 @@ turned_until points before c steps (Some stop) cores old new bus new_bus begun a
         core = new;
         goes_on = made.1.0;
         cores_are = cores_after cores before.cores c begun.core new begun.cores_are;
-        represents = subst (λ (b : BusState). Represents b before.world) (sym made.1.1) begun.represents;
+        represents = subst (λ (b : BusState). Represents b before.world) (sym made.1.1) (forgets before.world begun.represents);
       },
     )
+
+-- a bus that forgot its last access keeps the cores in order
+pub order_forgotten : (cores : List Core) (bus forgotten : BusState) → forgotten ≡ record bus { last = None } → IsInOrder cores bus → IsInOrder cores forgotten
+order_forgotten cores bus forgotten is order =
+    subst (IsInOrder cores) (sym is) (record { many = order.many; numbered = order.numbered; room = order.room })
 
 left_by : (runs : Bool) (old new left : ℕ) → old < left → old < new → cond runs (left - new) 0 < left - old
 left_by true old new left few more = omega (arith, few, more)
@@ -289,43 +304,46 @@ begun_none before c cores bus begun = record {
   represents = begun.represents;
 }
 
-first_none : {X : Type 0} (test : X → Bool) (n : ℕ) (xs : List X) → ((x : X) → test x ≡ false) → first_from test n xs ≡ None
+first_none : {X : Type 0} (test : ℕ → X → Bool) (n : ℕ) (xs : List X) → ((n : ℕ) (x : X) → test n x ≡ false) → first_from test n xs ≡ None
 first_none test n [] none = refl
-first_none test n (x ∷ xs) none = by_hit (test x) (Some n) (first_from test (n + 1) xs) (none x) ∙ first_none test (n + 1) xs none
+first_none test n (x ∷ xs) none = by_hit (test n x) (Some n) (first_from test (n + 1) xs) (none n x) ∙ first_none test (n + 1) xs none
 
-no_hit_by : (c steps : ℕ) (found : Option Core) → option_and_then (λ core. step_hit [] c core steps) found ≡ None
-unfolding step_hit
-no_hit_by c steps None = refl
-no_hit_by c steps (Some core) = first_none (hits_any [] c) (steps + 1) (drop (steps + 1) (turn_trace core)) (λ pc. refl)
+no_pause_by : (points : List Breakpoint) (c steps : ℕ) (found : Option Core) → ((pc : ℕ) → hits_any points c pc ≡ false) → option_and_then (λ core. step_pause points None c core steps) found ≡ None
+unfolding step_pause
+no_pause_by points c steps None none = refl
+no_pause_by points c steps (Some core) none = first_none (is_pause points None c) (steps + 1) (drop (steps + 1) (turn_trace core)) (λ n pc. none pc)
 
--- where there are no breakpoints none is hit
-pub no_hit : (before : Board) (c steps : ℕ) → board_step_hit [] before c steps ≡ None
-unfolding board_step_hit
-no_hit before c steps = no_hit_by c steps (slice_get before.cores c)
+-- where no breakpoint is of the core, and no step is the most, nothing pauses its turn
+pub no_pause : (points : List Breakpoint) (before : Board) (c steps : ℕ) → ((pc : ℕ) → hits_any points c pc ≡ false) → board_step_pause points None before c steps ≡ None
+unfolding board_step_pause
+no_pause points before c steps none = no_pause_by points c steps (slice_get before.cores c) none
 
-first_behind_by : {X : Type 0} (test : X → Bool) (n m : ℕ) (xs : List X) (passes : Bool) → (first_from test (n + 1) xs ≡ Some m → n + 1 ≤ m) → cond passes (Some n) (first_from test (n + 1) xs) ≡ Some m → n ≤ m
+first_behind_by : {X : Type 0} (test : ℕ → X → Bool) (n m : ℕ) (xs : List X) (passes : Bool) → (first_from test (n + 1) xs ≡ Some m → n + 1 ≤ m) → cond passes (Some n) (first_from test (n + 1) xs) ≡ Some m → n ≤ m
 first_behind_by test n m xs true later is = let same : n ≡ m = cc in omega (arith, same)
 first_behind_by test n m xs false later is = let past = later is in omega (arith, past)
 
-first_behind : {X : Type 0} (test : X → Bool) (n m : ℕ) (xs : List X) → first_from test n xs ≡ Some m → n ≤ m
+first_behind : {X : Type 0} (test : ℕ → X → Bool) (n m : ℕ) (xs : List X) → first_from test n xs ≡ Some m → n ≤ m
 first_behind test n m [] is = absurd (let b : ⊥ = cc in b)
-first_behind test n m (x ∷ xs) is = first_behind_by test n m xs (test x) (λ later. first_behind test (n + 1) m xs later) is
+first_behind test n m (x ∷ xs) is = first_behind_by test n m xs (test n x) (λ later. first_behind test (n + 1) m xs later) is
 
-hit_behind_by : (points : List Breakpoint) (c steps made : ℕ) (found : Option Core) → option_and_then (λ core. step_hit points c core steps) found ≡ Some made → steps < made
-unfolding step_hit
-hit_behind_by points c steps made None is = absurd (let b : ⊥ = cc in b)
-hit_behind_by points c steps made (Some core) is = let past = first_behind (hits_any points c) (steps + 1) made (drop (steps + 1) (turn_trace core)) is in omega (arith, past)
+behind_by : (points : List Breakpoint) (most : Option ℕ) (c steps made : ℕ) (found : Option Core) → option_and_then (λ core. step_pause points most c core steps) found ≡ Some made → steps < made
+unfolding step_pause
+behind_by points most c steps made None is = absurd (let b : ⊥ = cc in b)
+behind_by points most c steps made (Some core) is = let past = first_behind (is_pause points most c) (steps + 1) made (drop (steps + 1) (turn_trace core)) is in omega (arith, past)
 
--- a hit is behind the steps that were made
-pub hit_behind : (points : List Breakpoint) (before : Board) (c steps made : ℕ) → board_step_hit points before c steps ≡ Some made → steps < made
-unfolding board_step_hit
-hit_behind points before c steps made is = hit_behind_by points c steps made (slice_get before.cores c) is
+-- a pause is behind the steps that were made
+pub pause_behind : (points : List Breakpoint) (most : Option ℕ) (before : Board) (c steps made : ℕ) → board_step_pause points most before c steps ≡ Some made → steps < made
+unfolding board_step_pause
+pause_behind points most before c steps made is = behind_by points most c steps made (slice_get before.cores c) is
 
 -- worked values: steps 2 to 4 leave these pcs
-third_step : first_from (λ pc. pc == 268) 2 (260 ∷ 268 ∷ 268 ∷ []) ≡ Some 3
+third_step : first_from (λ n pc. pc == 268) 2 (260 ∷ 268 ∷ 268 ∷ []) ≡ Some 3
 third_step = refl
 
-no_step : first_from (λ pc. pc == 272) 2 (260 ∷ 268 ∷ 268 ∷ []) ≡ None
+most_step : first_from (is_pause [] (Some 4) 0) 2 (260 ∷ 268 ∷ 268 ∷ []) ≡ Some 4
+most_step = refl
+
+no_step : first_from (λ n pc. pc == 272) 2 (260 ∷ 268 ∷ 268 ∷ []) ≡ None
 no_step = refl
 
 every_core : is_hit 3 256 (record { core = None; pc = 256 }) ≡ true

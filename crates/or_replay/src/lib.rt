@@ -16,5 +16,5 @@ pub use failing::{has_failed, is_failure};
 pub use follow::{TurnFault, Unwatched, Watcher};
 pub use opening::OpenFault;
 pub use reporting::{append_stop, core_text, report};
-pub use stepping::Breakpoint;
+pub use stepping::{Breakpoint, Until};
 pub use watching::Placed;

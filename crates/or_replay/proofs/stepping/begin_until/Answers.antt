@@ -14,7 +14,7 @@ returns-then-pauses-clause-paused c first inside =
     let stepped = c.in-Stepped.ensures.tried in
     let here = inside_more first c.loop-made.core new made (c.loop-made.invariant.inside first inside) c.loop-made-test.true stepped.0 stepped.1 stepped.2 in
     let pause = c.pauses.ensures.pauses c.if-pauses.true in (
-      c.loop-made.invariant.none first inside ∙ hit_here c.args.points.now c.args.number first new made here pause.0 pause.1.0 pause.1.1,
+      c.loop-made.invariant.none first inside ∙ hit_here c.args.points.now c.args.most c.args.number first new made here pause.0 pause.1.0 pause.1.1,
       record { inside = here; runs = pause.1.0; fewer = pause.0 },
     )
 
@@ -26,7 +26,7 @@ returns-in-NeedsBus-clause-paused c first inside =
     let here = subst (λ (k : Core). IsInside first made k) (sym waits.2) (c.loop-made.invariant.inside first inside) in
     let runs = ap (λ (k : Core). k.stop) waits.2 ∙ waits.0 in
     let private = ap is_private waits.2 ∙ waits.1 in (
-      c.loop-made.invariant.none first inside ∙ hit_waits c.args.points.now c.args.number first new made here c.loop-made-test.true runs private,
+      c.loop-made.invariant.none first inside ∙ hit_waits c.args.points.now c.args.most c.args.number first new made here c.loop-made-test.true runs private,
       begun_waits first new made here c.loop-made-test.true runs private,
     )
 
@@ -37,7 +37,7 @@ returns-in-Stopped-clause-paused c first inside =
     let stopped = c.in-Stopped.ensures.tried in
     let here = subst (λ (k : Core). IsInside first made k) (sym stopped.1) (c.loop-made.invariant.inside first inside) in
     let no = ap (λ (k : Core). is_none k.stop) stopped.1 ∙ stopped.0 in (
-      c.loop-made.invariant.none first inside ∙ hit_stopped c.args.points.now c.args.number first new made here c.loop-made-test.true no,
+      c.loop-made.invariant.none first inside ∙ hit_stopped c.args.points.now c.args.most c.args.number first new made here c.loop-made-test.true no,
       begun_stopped first new made here c.loop-made-test.true no,
     )
 
@@ -45,7 +45,7 @@ pub returns-clause-paused : goal.returns-clause-paused
 returns-clause-paused c first inside =
     let made = c.loop-made.made in
     let here = c.loop-made.invariant.inside first inside in (
-      c.loop-made.invariant.none first inside ∙ hit_none c.args.points.now c.args.number first c.loop-made.core made here (omega (arith, c.loop-made-test.false)),
+      c.loop-made.invariant.none first inside ∙ hit_none c.args.points.now c.args.most c.args.number first c.loop-made.core made here (omega (arith, c.loop-made-test.false)),
       begun_all first c.loop-made.core made here (omega (arith, c.loop-made-test.false)),
     )
 
