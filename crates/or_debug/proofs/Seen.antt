@@ -11,7 +11,7 @@ use Rattle.or_bus.specs.State.{BusState}
 use Rattle.or_bus.specs.Answers.{word_shown}
 use Rattle.or_replay.specs.Board.{IsBoard}
 use Rattle.or_debug.specs.declared.turns.MadeTurn.{MadeTurn}
-use Rattle.or_debug.specs.declared.points.Breakpoint.{Breakpoint}
+use Rattle.or_replay.specs.declared.stepping.Breakpoint.{Breakpoint}
 use Rattle.or_debug.specs.declared.points.Watchpoint.{Watchpoint}
 use Rattle.or_script.specs.declared.command.Command.TheVariants.{Turn}
 use Rattle.or_debug.specs.declared.debugger.Debugger.{Debugger}

@@ -5,16 +5,14 @@ use Rattle.or_text.specs.Hexadecimal.{word_text}
 use Rattle.or_model.specs.Turn.{Board}
 use Rattle.or_bus.specs.Answers.{word_shown}
 use Rattle.or_debug.specs.declared.turns.MadeTurn.{MadeTurn}
-use Rattle.or_debug.specs.declared.points.Breakpoint.{Breakpoint}
+use Rattle.or_replay.specs.declared.stepping.Breakpoint.{Breakpoint}
+use Rattle.or_replay.specs.Stepping.{is_hit}
 use Rattle.or_debug.specs.Turns.{after, turn_made}
 use Rattle.or_debug.specs.Points.{Points}
 
--- a turn of the breakpoint's core that left its pc there
-abbrev pub hits_break : MadeTurn → Breakpoint → Bool
-hits_break made point = made.core == point.core && made.pc == point.pc
-
+-- a turn that left its core's pc there
 abbrev pub break_line : MadeTurn → Breakpoint → List ℕ
-break_line made point = if hits_break made point then codes "break turn " ++ decimal made.turn ++ codes " core " ++ decimal point.core ++ codes "\n" else []
+break_line made point = if is_hit made.core made.pc point then codes "break turn " ++ decimal made.turn ++ codes " core " ++ decimal made.core ++ codes "\n" else []
 
 -- a word of RAM before and after a turn, at the end of a line
 abbrev pub words_text : ℕ → ℕ → ℕ → List ℕ

@@ -1,6 +1,6 @@
 -- The points at which a session stops.
-use Rattle.std.specs.Prelude.{ℕ, List, [], ◌∷◌, ◌++◌}
-use Rattle.or_debug.specs.declared.points.Breakpoint.{Breakpoint}
+use Rattle.std.specs.Prelude.{ℕ, List, [], ◌∷◌, ◌++◌, Option}
+use Rattle.or_replay.specs.declared.stepping.Breakpoint.{Breakpoint}
 
 -- the points that were set, each kind in the order of its lines; a watchpoint and a store point are the address of a word
 pub record Points : Type 0 where
@@ -11,7 +11,7 @@ pub record Points : Type 0 where
 abbrev pub no_points : Points
 no_points = record { breaks = []; watches = []; stores = [] }
 
-abbrev pub with_break : Points → ℕ → ℕ → Points
+abbrev pub with_break : Points → Option ℕ → ℕ → Points
 with_break points core pc = record points { breaks = points.breaks ++ (record { core = core; pc = pc }) ∷ [] }
 
 abbrev pub with_watch : Points → ℕ → Points

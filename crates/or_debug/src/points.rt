@@ -7,16 +7,9 @@ ghost use Rattle.or_debug.specs.Hits.{break_line, words_text, change_line, chang
 ghost use Rattle.or_debug.specs.Standing.{seen, seen_line, seen_store};
 
 use crate::turns::MadeTurn;
-use or_replay::Board;
+use or_replay::{Board, Breakpoint};
 use or_text::{append_decimal, append_word};
 use std::alloc::AllocError;
-
-/// It is hit where a turn of the core leaves its pc here.
-#[derive(Clone, Copy, Debug, PartialEq, Eq)]
-pub struct Breakpoint {
-    pub core: u32,
-    pub pc: u32,
-}
 
 /// A watchpoint is hit where a turn changed the word of RAM at the address from the word that was seen last, a store point
 /// where a turn stored to it.
@@ -29,13 +22,14 @@ pub struct Watchpoint {
 fn append_break(point: Breakpoint, made: MadeTurn, text: &mut Vec<u8>) -> Result<(), AllocError>
     ensures { OnOk result (text.new.items ≡ text.old.items ++ break_line made point) }
 {
-    if u32::from(made.core) != point.core || made.pc != point.pc {
+    let core = u32::from(made.core);
+    if !point.is_hit(core, made.pc) {
         return Ok(());
     }
     text.extend_from_slice(b"break turn ")?;
     append_decimal(made.turn, text)?;
     text.extend_from_slice(b" core ")?;
-    append_decimal(u64::from(point.core), text)?;
+    append_decimal(u64::from(core), text)?;
     text.extend_from_slice(b"\n")
 }
 

@@ -6,11 +6,9 @@ ghost use Rattle.or_debug.specs.Points.{no_points, with_break, with_watch, with_
 ghost use Rattle.or_debug.specs.Hits.{hits_of};
 ghost use Rattle.or_debug.specs.Standing.{points_of, seen, HasSeen, HasLooked};
 
-use crate::points::{
-    Breakpoint, Watchpoint, append_breaks, append_changes, append_stores, look, look_at_all,
-};
+use crate::points::{Watchpoint, append_breaks, append_changes, append_stores, look, look_at_all};
 use crate::turns::MadeTurn;
-use or_replay::Board;
+use or_replay::{Board, Breakpoint};
 use std::alloc::{AllocError, Global};
 
 /// The breakpoints, the watchpoints and the store points that were set, each kind in the order of its lines.
@@ -67,8 +65,8 @@ impl Stops {
         }
     }
 
-    /// From now on a breakpoint is there.
-    pub fn set_break(&mut self, core: u32, pc: u32) -> Result<(), AllocError>
+    /// From now on a breakpoint of a core, or of every core, is there.
+    pub fn set_break(&mut self, core: Option<u32>, pc: u32) -> Result<(), AllocError>
         ensures points { OnOk result (points_of self.new ≡ with_break (points_of self.old) core pc) }
         ensures seen { OnOk result ((ram : List ℕ) → HasSeen ram self.old → HasSeen ram self.new) }
     {

@@ -12,8 +12,8 @@ use Rattle.or_script.specs.declared.command.Command.TheVariants.{Nothing, Go, Tu
 use Rattle.or_script.specs.declared.command.LineFault.{LineFault}
 use Rattle.or_script.specs.declared.command.LineFault.TheVariants.{BadCommand, OutOfRange}
 use Rattle.or_script.specs.declared.script.Points.{Points}
-use Rattle.or_script.specs.Operands.{number_of, core_number}
-use Rattle.or_script.specs.Command.{in_range, is_word, with_one, with_two, is_word_of_ram, is_comment, turn_line, last_line, watch_line, stores_line, registers_line, lines_line, break_line, memory_line, no_operand, one_operand, two_operands, words_of, form_of, command_of}
+use Rattle.or_script.specs.Operands.{number_of, core_number, cores_named}
+use Rattle.or_script.specs.Command.{in_range, is_word, with_one, with_two, is_word_of_ram, are_of_board, is_comment, turn_line, last_line, watch_line, stores_line, registers_line, lines_line, break_line, memory_line, no_operand, one_operand, two_operands, words_of, form_of, command_of}
 use Rattle.or_script.specs.Script.{no_points, points_after, with_room, unless_full, command_at, onto, after_line, script_from, script_of}
 use Rattle.or_script.specs.Last.{HasFewTurns}
 
@@ -29,7 +29,7 @@ few_one : (number : Option ℕ) (line : ℕ → Result Command LineFault) → ((
 few_one None line few = tt
 few_one (Some n) line few = few n
 
-few_two : (first second : Option ℕ) (line : ℕ → ℕ → Result Command LineFault) → ((m n : ℕ) → Few (line m n)) → Few (with_two first second line)
+few_two : {X : Type 0} (first : Option X) (second : Option ℕ) (line : X → ℕ → Result Command LineFault) → ((m : X) (n : ℕ) → Few (line m n)) → Few (with_two first second line)
 few_two None second line few = tt
 few_two (Some m) None line few = tt
 few_two (Some m) (Some n) line few = few m n
@@ -65,9 +65,9 @@ few_operand config name word =
     operand_by config word (bytes_eq name (codes "turn")) (bytes_eq name (codes "last")) (bytes_eq name (codes "watch")) (bytes_eq name (codes "stores")) (bytes_eq name (codes "regs")) (bytes_eq name (codes "lines"))
 
 operands_by : (config : Config) (first second : List ℕ) (break memory : Bool)
-    → Few (cond break (with_two (core_number first) (number_of second) (break_line config)) (cond memory (with_two (number_of first) (number_of second) (memory_line config)) (Err BadCommand)))
+    → Few (cond break (with_two (cores_named first) (number_of second) (break_line config)) (cond memory (with_two (number_of first) (number_of second) (memory_line config)) (Err BadCommand)))
 operands_by config first second true memory =
-    few_two (core_number first) (number_of second) (break_line config) (λ m n. few_range (nat_lt m config.cores && is_word n) (Break m n) (λ _. tt))
+    few_two (cores_named first) (number_of second) (break_line config) (λ m n. few_range (are_of_board config m && is_word n) (Break m n) (λ _. tt))
 operands_by config first second false true =
     few_two (number_of first) (number_of second) (memory_line config)
     (λ m n. few_range (m % 4 == 0 && is_word m && nat_le 1 n && nat_le n 256 && nat_le (m + 4 * n) (ram_bytes config)) (Memory m n) (λ _. tt))

@@ -1,5 +1,5 @@
 -- Worked lines of a script.
-use Rattle.std.proofs.Common.{◌≡◌, refl, false, Ok, Err}
+use Rattle.std.proofs.Common.{◌≡◌, refl, false, Ok, Err, Some, None}
 use Rattle.std.specs.Prelude.{codes}
 use Rattle.or_text.specs.Numerals.{size_of}
 use Rattle.or_words.specs.declared.Config.{Config}
@@ -36,9 +36,17 @@ stores_past_the_end : command_of board (codes "stores 1048576") ≡ Err OutOfRan
 unfolding command_of size_of
 stores_past_the_end = refl
 
-break_anywhere : command_of board (codes "break 1 3") ≡ Ok (Break 1 3)
+break_anywhere : command_of board (codes "break 1 3") ≡ Ok (Break (Some 1) 3)
 unfolding command_of size_of
 break_anywhere = refl
+
+break_of_every_core : command_of board (codes "break * 0x100") ≡ Ok (Break None 256)
+unfolding command_of size_of
+break_of_every_core = refl
+
+break_of_no_core : command_of board (codes "break 2 0x100") ≡ Err OutOfRange
+unfolding command_of size_of
+break_of_no_core = refl
 
 memory_at_the_end : command_of board (codes "mem 1048572 1") ≡ Ok (Memory 1048572 1)
 unfolding command_of size_of

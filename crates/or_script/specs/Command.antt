@@ -1,5 +1,5 @@
 -- The forms of a line.
-use Rattle.std.specs.Prelude.{ℕ, ◌+◌, ◌*◌, ◌%◌, ◌^◌, ◌==◌, nat_lt, nat_le, if◌then◌else◌, Bool, false, ◌&&◌, List, [], ◌∷◌, codes, Option, Some, None, Result, Ok, Err}
+use Rattle.std.specs.Prelude.{ℕ, ◌+◌, ◌*◌, ◌%◌, ◌^◌, ◌==◌, nat_lt, nat_le, if◌then◌else◌, Bool, true, false, ◌&&◌, List, [], ◌∷◌, codes, Option, Some, None, Result, Ok, Err}
 use Rattle.std.specs.List.{slice_split}
 use Rattle.std.specs.Str.{bytes_eq}
 use Rattle.or_words.specs.declared.Config.{Config}
@@ -8,7 +8,7 @@ use Rattle.or_script.specs.declared.command.Command.{Command}
 use Rattle.or_script.specs.declared.command.Command.TheVariants.{Nothing, Go, Turn, Break, Watch, Stores, Registers, Memory, Lines, Last}
 use Rattle.or_script.specs.declared.command.LineFault.{LineFault}
 use Rattle.or_script.specs.declared.command.LineFault.TheVariants.{BadCommand, OutOfRange}
-use Rattle.or_script.specs.Operands.{number_of, core_number}
+use Rattle.or_script.specs.Operands.{number_of, core_number, cores_named}
 
 -- the command, where its operands are in their ranges
 abbrev pub in_range : Bool → Command → Result Command LineFault
@@ -40,9 +40,14 @@ registers_line config core = in_range (nat_lt core config.cores) (Registers core
 abbrev pub lines_line : Config → ℕ → Result Command LineFault
 lines_line config core = in_range (nat_lt core config.cores) (Lines core)
 
+-- the core of a breakpoint, if it is of one core
+abbrev pub are_of_board : Config → Option ℕ → Bool
+are_of_board config None = true
+are_of_board config (Some core) = nat_lt core config.cores
+
 -- any address will do
-abbrev pub break_line : Config → ℕ → ℕ → Result Command LineFault
-break_line config core pc = in_range (nat_lt core config.cores && is_word pc) (Break core pc)
+abbrev pub break_line : Config → Option ℕ → ℕ → Result Command LineFault
+break_line config core pc = in_range (are_of_board config core && is_word pc) (Break core pc)
 
 -- 1 to 256 words of RAM
 abbrev pub memory_line : Config → ℕ → ℕ → Result Command LineFault
@@ -54,7 +59,7 @@ abbrev pub with_one : Option ℕ → (ℕ → Result Command LineFault) → Resu
 with_one None line = Err BadCommand
 with_one (Some n) line = line n
 
-abbrev pub with_two : Option ℕ → Option ℕ → (ℕ → ℕ → Result Command LineFault) → Result Command LineFault
+abbrev pub with_two : {X : Type 0} → Option X → Option ℕ → (X → ℕ → Result Command LineFault) → Result Command LineFault
 with_two None second line = Err BadCommand
 with_two (Some first) None line = Err BadCommand
 with_two (Some first) (Some second) line = line first second
@@ -76,7 +81,7 @@ one_operand config name word =
 
 abbrev pub two_operands : Config → List ℕ → List ℕ → List ℕ → Result Command LineFault
 two_operands config name first second =
-    if bytes_eq name (codes "break") then with_two (core_number first) (number_of second) (break_line config)
+    if bytes_eq name (codes "break") then with_two (cores_named first) (number_of second) (break_line config)
     else (if bytes_eq name (codes "mem") then with_two (number_of first) (number_of second) (memory_line config)
     else Err BadCommand)
 

@@ -1,10 +1,11 @@
 //! The forms of a line.
-ghost use Rattle.std.specs.Prelude.{◌≡◌, ◌≤◌, ◌<◌, ◌^◌, nat_lt, true, IfSome, [], ◌∷◌};
+ghost use Rattle.std.specs.Prelude.{◌≡◌, ◌≤◌, ◌<◌, ◌^◌, nat_lt, true, IfSome, [], ◌∷◌, Some, None};
+ghost use Rattle.or_words.specs.declared.Config.{Config as ConfigModel};
 ghost use Rattle.or_words.specs.Settings.{ram_bytes};
 ghost use Rattle.or_script.specs.Command.{is_word_of_ram, turn_line, last_line, watch_line, stores_line, registers_line, lines_line, break_line, memory_line, with_one, with_two, no_operand, one_operand, two_operands, form_of, command_of, words_of};
 
 use crate::cutting::cut;
-use crate::operands::{core_number, number};
+use crate::operands::{core_number, cores_named, number};
 use or_words::Config;
 use or_words::limits::MIB;
 
@@ -17,8 +18,8 @@ pub enum Command {
     Go,
     /// `turn N`: follow so many turns, 1 to 4294967295, or as many as are left.
     Turn { turns: u32 },
-    /// `break C ADDR`: from now on hit where a turn of the core leaves its pc at the address.
-    Break { core: u32, pc: u32 },
+    /// `break C ADDR`, `break * ADDR`: from now on hit where a step of the core, or of any core, leaves its pc at the address.
+    Break { core: Option<u32>, pc: u32 },
     /// `watch ADDR`: from now on hit where a turn changed the word of RAM at the address, a multiple of four.
     Watch { address: u32 },
     /// `stores ADDR`: from now on hit where a turn stores to the word of RAM at the address, a multiple of four.
@@ -165,20 +166,53 @@ fn lines_line(config: &Config, number: Option<u64>) -> Result<Command, LineFault
     }
 }
 
-fn break_line(config: &Config, core: Option<u64>, pc: Option<u64>) -> Result<Command, LineFault>
+// A breakpoint of one core.
+fn break_of(config: &Config, core: u64, pc: u64) -> Result<Command, LineFault>
+    ensures { result ≡ break_line config.now (Some core) pc }
+{
+    if is_core(config, core) && pc < TOO_LARGE {
+        Ok(Command::Break {
+            core: Some(core as u32),
+            pc: pc as u32,
+        })
+    } else {
+        Err(LineFault::OutOfRange)
+    }
+}
+
+// A breakpoint of every core.
+fn break_of_all(pc: u64) -> Result<Command, LineFault>
+    ensures { (config : ConfigModel) → result ≡ break_line config None pc }
+{
+    if pc < TOO_LARGE {
+        Ok(Command::Break {
+            core: None,
+            pc: pc as u32,
+        })
+    } else {
+        Err(LineFault::OutOfRange)
+    }
+}
+
+// A breakpoint of one core, or of every core.
+fn break_at(config: &Config, core: Option<u64>, pc: u64) -> Result<Command, LineFault>
+    ensures { result ≡ break_line config.now core pc }
+{
+    match core {
+        Some(core) => break_of(config, core, pc),
+        None => break_of_all(pc),
+    }
+}
+
+fn break_line(
+    config: &Config,
+    core: Option<Option<u64>>,
+    pc: Option<u64>,
+) -> Result<Command, LineFault>
     ensures { result ≡ with_two core pc (break_line config.now) }
 {
     match (core, pc) {
-        (Some(core), Some(pc)) => {
-            if is_core(config, core) && pc < TOO_LARGE {
-                Ok(Command::Break {
-                    core: core as u32,
-                    pc: pc as u32,
-                })
-            } else {
-                Err(LineFault::OutOfRange)
-            }
-        }
+        (Some(core), Some(pc)) => break_at(config, core, pc),
         _ => Err(LineFault::BadCommand),
     }
 }
@@ -252,7 +286,7 @@ fn two_operands(
     ensures { result ≡ two_operands config.now name.now first.now second.now }
 {
     if name == b"break".as_slice() {
-        break_line(config, core_number(first), number(second))
+        break_line(config, cores_named(first), number(second))
     } else if name == b"mem".as_slice() {
         memory_line(config, number(first), number(second))
     } else {

@@ -10,5 +10,5 @@ mod script;
 pub use command::{Command, LineFault, read_line};
 pub use cutting::cut;
 pub use fault::ScriptFault;
-pub use operands::{core_number, number};
+pub use operands::{core_number, cores_named, number};
 pub use script::{Points, add_point, at_line, check, command_at, commands};

@@ -1,6 +1,6 @@
 //! The operands of a line.
 ghost use Rattle.std.specs.Prelude.{◌≡◌, ◌≤◌, ◌^◌, IfSome};
-ghost use Rattle.or_script.specs.Operands.{number_of, core_number};
+ghost use Rattle.or_script.specs.Operands.{number_of, core_number, cores_named};
 
 use or_text::numerals::{has_leading_zero, size};
 
@@ -25,5 +25,19 @@ pub fn core_number(text: &[u8]) -> Option<u64>
         None
     } else {
         size(10, text)
+    }
+}
+
+/// The core of a breakpoint: a number as `core_number` reads it, or none for `*`, which is every core. `None` where the text
+/// is neither.
+pub fn cores_named(text: &[u8]) -> Option<Option<u64>>
+    ensures { result ≡ cores_named text.now }
+{
+    if text == b"*".as_slice() {
+        return Some(None);
+    }
+    match core_number(text) {
+        None => None,
+        Some(core) => Some(Some(core)),
     }
 }
