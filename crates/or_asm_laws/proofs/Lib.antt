@@ -5,6 +5,7 @@ pub mod Numerals
 pub mod Operands
 pub mod Places
 pub mod Readings
+pub mod SlotFits
 pub mod Sources
 pub mod Spelled
 pub mod Spellings

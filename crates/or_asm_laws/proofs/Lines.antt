@@ -17,7 +17,7 @@ use Rattle.or_asm_text.specs.Slots.{slots_of}
 use Rattle.or_asm_text.specs.Texts.{slot_text, further_text, slots_text, text_of}
 use Rattle.or_asm_read.specs.Cuts.{is_blank, is_allowed, before, after, has, trimmed_start, trimmed_end, trimmed, body_of, is_clean, has_label, is_label, statement_of}
 use Rattle.or_asm.specs.Lines.{lines_of}
-use Rattle.or_asm_laws.specs.SlotFits.{IsNatural, SlotFits, SlotsFit}
+use Rattle.or_asm_laws.proofs.SlotFits.{IsNatural, SlotFits, SlotsFit}
 use Rattle.or_asm_laws.proofs.Spelled.{and_true, not_true, or_left, is_mark, all_append, all_of, none_such, no_blanks, before_none, none_any, skipped_first, ended_same, ended_behind}
 use Rattle.or_asm_laws.proofs.Operands.{all_shown, operands_marks, append_none}
 use Rattle.or_asm_laws.proofs.Names.{spelling}

@@ -18,7 +18,7 @@ use Rattle.or_asm_read.specs.Cuts.{is_label_byte, after, trimmed}
 use Rattle.or_asm_read.specs.Faults.{lesser_fault}
 use Rattle.or_asm_read.specs.Operands.{slot_at, placed, operands_at}
 use Rattle.or_asm_read.specs.Labels.{Labels}
-use Rattle.or_asm_laws.specs.SlotFits.{IsNatural, SlotFits, SlotsFit}
+use Rattle.or_asm_laws.proofs.SlotFits.{IsNatural, SlotFits, SlotsFit}
 use Rattle.or_asm_laws.proofs.Spelled.{or_left, is_mark, is_plain, all_append, all_of, later_plain, plain_mark, none_such, no_blanks, trimmed_same, before_at, after_at}
 use Rattle.or_asm_laws.proofs.Places.{shown, placed_shown, slot_again, hex_later, register_later, signed_plain, target_small}
 

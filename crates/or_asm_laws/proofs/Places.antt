@@ -24,7 +24,7 @@ use Rattle.or_asm_read.specs.Faults.{lesser_fault}
 use Rattle.or_asm_read.specs.Numbers.{is_hexadecimal, number_of, register_of}
 use Rattle.or_asm_read.specs.Operands.{within, ranged, operand_of, as_value, with_value, unsigned_half, constant_at, greatest_immediate, immediate_at, register_at, number_at, bits_of, half_at, half_or, before_bracket, in_brackets, is_bracketed, is_empty, value_at, plain_at, offset_of, quarter, jump_at, address_operand, memory_at, slot_at, placed}
 use Rattle.or_asm_read.specs.Labels.{Labels}
-use Rattle.or_asm_laws.specs.SlotFits.{IsNatural, SlotFits}
+use Rattle.or_asm_laws.proofs.SlotFits.{IsNatural, SlotFits}
 use Rattle.or_asm_laws.proofs.Numbers.{number_hex, number_decimal, number_negative, register_again}
 use Rattle.or_asm_laws.proofs.Spelled.{and_true, not_true, is_plain, all_of, later_plain, digits_later, none_such, before_at, after_at, after_none}
 

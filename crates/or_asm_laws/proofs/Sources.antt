@@ -18,7 +18,7 @@ use Rattle.or_asm_read.specs.Statements.{org_at, named_at, statement_at}
 use Rattle.or_asm.specs.Lines.{lines_of, puts_word, place_after, with_label, labels_from}
 use Rattle.or_asm.specs.Source.{State, initial_state, fault_where, lesser_of, fault_in, repeats, lacks_room, overlaps, line_fault, label_count, carried_out, state_after, fault_at, unless_fault, source_from, source_of}
 use Rattle.or_asm_laws.specs.Numerals.{SpellsMagnitude, SpellsNumber}
-use Rattle.or_asm_laws.specs.SlotFits.{org_line}
+use Rattle.or_asm_laws.specs.Grammar.{org_line}
 use Rattle.or_asm_laws.proofs.Numerals.{number_says}
 use Rattle.or_asm_laws.proofs.Numbers.{number_hex}
 use Rattle.or_asm_laws.proofs.Spelled.{is_mark, all_of, all_append, later_plain, plain_mark, or_left, none_such, no_blanks, trimmed_same, ended_behind, digits_later}

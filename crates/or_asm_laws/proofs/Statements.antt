@@ -22,7 +22,7 @@ use Rattle.or_asm_read.specs.Numbers.{number_of}
 use Rattle.or_asm_read.specs.Operands.{is_empty, value_at, bits_of, operands_at}
 use Rattle.or_asm_read.specs.Labels.{Labels}
 use Rattle.or_asm_read.specs.Statements.{org_at, word_at, made_of, insn_at, named_at, statement_at}
-use Rattle.or_asm_laws.specs.SlotFits.{SlotsFit}
+use Rattle.or_asm_laws.proofs.SlotFits.{SlotsFit}
 use Rattle.or_asm_laws.proofs.Spelled.{no_blanks, before_at, after_at, before_none, after_none}
 use Rattle.or_asm_laws.proofs.Operands.{all_shown, operands_again, append_none}
 

@@ -1,5 +1,5 @@
 -- The form of a line, as a spelling: blanks, a label with its colon, blanks, a statement, blanks, a comment.
-use Rattle.std.specs.Prelude.{◌≡◌, ◌≢◌, ℕ, ◌==◌, true, false, not, List, [], ◌∷◌, ◌++◌, Option, Some, None}
+use Rattle.std.specs.Prelude.{◌≡◌, ◌≢◌, ℕ, ◌==◌, true, false, not, List, [], ◌∷◌, ◌++◌, codes, Option, Some, None}
 use Rattle.std.specs.List.{list_all}
 use Rattle.or_asm_read.specs.Cuts.{is_blank, is_label, trimmed_end}
 
@@ -40,3 +40,7 @@ pub record IsLine (line : List ℕ) (label : Option (List ℕ)) (statement : Lis
   pub tight : IsTight statement
   pub no_hash : HasNoHash statement
   pub whole : line ≡ lead ++ (label_text label ++ (gap ++ (statement ++ (tail ++ comment))))
+
+-- a line that sets the place to a number in some spelling
+abbrev pub org_line : List ℕ → List ℕ
+org_line number = codes ".org " ++ number

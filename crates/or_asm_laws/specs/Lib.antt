@@ -1,4 +1,3 @@
 pub mod Apart
 pub mod Grammar
 pub mod Numerals
-pub mod SlotFits

@@ -8,7 +8,7 @@
 ghost use Rattle.std.specs.Prelude.{◌≡◌, ℕ, ℤ, pos, ◌%◌, ◌^◌, ◌<◌, [], ◌∷◌, ◌++◌, List, Option, Some, None, Ok, Err};
 ghost use Rattle.or_asm_read.specs.Cuts.{label_of, statement_of};
 ghost use Rattle.or_asm_laws.specs.Apart.{AllApart, AllInMemory};
-ghost use Rattle.or_asm_laws.specs.Grammar.{IsLine};
+ghost use Rattle.or_asm_laws.specs.Grammar.{IsLine, org_line};
 ghost use Rattle.or_asm_laws.specs.Numerals.{SpellsNumber};
 ghost use Rattle.or_asm.specs.First.{all_labels, IsFirstFault, IsProgram};
 ghost use Rattle.or_asm.specs.Pairs.{placed_words, words_put};
@@ -17,7 +17,6 @@ ghost use Rattle.or_isa.specs.declared.Insn.{Insn};
 ghost use Rattle.or_isa.specs.Fits.{Fits};
 ghost use Rattle.or_isa.specs.Word.{word_of};
 ghost use Rattle.or_asm.specs.Source.{State, SourceFault, source_of, initial_state, state_after, line_fault};
-ghost use Rattle.or_asm_laws.specs.SlotFits.{org_line};
 ghost use Rattle.or_text.specs.Hexadecimal.{hexadecimal};
 ghost use Rattle.or_asm_text.specs.Texts.{register_text, text_of};
 ghost use Rattle.or_asm_read.specs.Numbers.{number_of, register_of};

@@ -1,5 +1,5 @@
 -- The operands that their places can show.
-use Rattle.std.specs.Prelude.{ℕ, ◌^◌, ◌<◌, ℤ, pos, negsuc, List, [], ◌∷◌, ◌++◌, codes}
+use Rattle.std.specs.Prelude.{ℕ, ◌^◌, ◌<◌, ℤ, pos, negsuc, List, [], ◌∷◌}
 use Rattle.or_isa.specs.Fits.{IsSigned}
 use Rattle.or_asm_text.specs.declared.operands.Operands.{Operands}
 use Rattle.or_asm_text.specs.declared.operands.Slot.{Slot}
@@ -26,7 +26,3 @@ SlotFits Memory o = (o.a < 2 ^ 5) × IsSigned 15 o.value
 abbrev pub SlotsFit : List Slot → Operands → Type 0
 SlotsFit [] o = Unit {0}
 SlotsFit (slot ∷ slots) o = SlotFits slot o × SlotsFit slots o
-
--- a line that sets the place to a number in some spelling
-abbrev pub org_line : List ℕ → List ℕ
-org_line number = codes ".org " ++ number
