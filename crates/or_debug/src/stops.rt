@@ -65,7 +65,8 @@ impl Stops {
         }
     }
 
-    /// From now on a breakpoint of a core, or of every core, is there.
+    /// From now on a breakpoint is there, which is hit where a turn of the core, or of any core where none is given, leaves
+    /// its pc at the address.
     pub fn set_break(&mut self, core: Option<u32>, pc: u32) -> Result<(), AllocError>
         ensures points { OnOk result (points_of self.new ≡ with_break (points_of self.old) core pc) }
         ensures seen { OnOk result ((ram : List ℕ) → HasSeen ram self.old → HasSeen ram self.new) }

@@ -18,7 +18,7 @@ pub enum Command {
     Go,
     /// `turn N`: follow so many turns, 1 to 4294967295, or as many as are left.
     Turn { turns: u32 },
-    /// `break C ADDR`, `break * ADDR`: from now on hit where a step of the core, or of any core, leaves its pc at the address.
+    /// `break C ADDR`, `break * ADDR`: from now on hit where a turn of the core, or of any core, leaves its pc at the address.
     Break { core: Option<u32>, pc: u32 },
     /// `watch ADDR`: from now on hit where a turn changed the word of RAM at the address, a multiple of four.
     Watch { address: u32 },
