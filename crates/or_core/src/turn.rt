@@ -46,8 +46,8 @@ impl Begun {
 }
 
 impl Core {
-    // Makes the private steps of a turn, at most 256.
-    #[inline(always)]
+    // Makes the private steps of a turn, at most 256. All turns share it, so that the quiet steps stand in it and nowhere else.
+    #[inline(never)]
     #[tactic(auto, using(crate::proofs::Begins::begin_steps), unfolding(or_model::specs::Turn::turn_begun))]
     fn begin(&mut self) -> Begun
         requires { self.old.stop ≡ None }
@@ -142,7 +142,6 @@ impl Core {
 
     /// Makes one turn: private steps, at most 256, then a step on the bus where fewer were made and
     /// the core has not stopped, then the sampling of the interrupt lines.
-    #[tactic(auto, using(crate::proofs::Progress::turn_progress), unfolding(or_model::specs::Turn::turn, crate::specs::Access::turn_access))]
     pub fn turn(&mut self, bus: &mut Bus)
         requires running { self.old.stop ≡ None }
         requires known { self.old.number < bus.old.cores }
@@ -153,9 +152,7 @@ impl Core {
         ensures access { (world : World) → Represents bus.old world → bus.new.last ≡ option_or (turn_access self.old world) bus.old.last }
         ensures bus { KeepsBus bus.old bus.new }
     {
-        let _ = &self.steps;
-        let begun = self.begin();
-        self.end(bus, begun);
+        let _ = self.turn_placed(bus);
     }
 
     /// Makes one turn as `turn` does, and answers the pc behind its private steps: that of the step on the bus, if one
