@@ -4,3 +4,4 @@ pub mod Counting
 pub mod Gets
 pub mod OneText
 pub mod Sums
+pub mod Spans
