@@ -15,9 +15,8 @@ mod joining;
 mod opening;
 mod steps;
 mod turning;
-mod waiters;
 
-use waiters::Waiters;
+use or_waiters::Waiters;
 
 /// What units share: the bus with the schedule so far, whose turn it is, and who waits.
 /// Threads may share it.

@@ -12,7 +12,7 @@ ghost use Rattle.or_turn.specs.Units.{Fresh, AreOpened};
 
 use super::Shared;
 use super::steps::{Top, enrol, split};
-use super::waiters::Waiters;
+use or_waiters::Waiters;
 use crate::unit::{Place, Unit};
 use crate::view::{OpenedWith, Transfer};
 use arrayvec::ArrayVec;

@@ -11,7 +11,7 @@ ghost use Rattle.or_turn.specs.Units.{view, begun, cores, IsOf};
 
 use super::Shared;
 use super::steps::{SERVING, wait_for_bus};
-use super::waiters::StayEnd;
+use or_waiters::StayEnd;
 use crate::pace::Pace;
 use crate::plays::Finish;
 use crate::unit::Unit;

@@ -9,6 +9,11 @@
 //! given back fails only where another core has taken the bus, which gives it back in its turn, or where it is kept for a core
 //! that waits; this one is woken, if it sleeps. No other core takes the bus meanwhile: a try reads the ticket before it reads for
 //! whom the bus is kept, so a try that read the latter too early draws a ticket that is no longer the next.
+#![tactic(auto)]
+
+#[cfg(test)]
+mod tests;
+
 use std::sync::Wait;
 use std::sync::atomic::{AtomicU64, Ordering};
 
@@ -28,19 +33,19 @@ const NOT_NOTED: u64 = u64::MAX;
 
 /// What is known of a stay at its end.
 #[derive(Drop)]
-pub(crate) struct StayEnd {
+pub struct StayEnd {
     /// How many turns had been made by all cores when it began, and when it ended.
-    pub(crate) began: u64,
-    pub(crate) turns: u64,
+    pub began: u64,
+    pub turns: u64,
     /// How many turns it could have at most.
-    pub(crate) most: u32,
+    pub most: u32,
     /// Whether its core waits for another.
-    pub(crate) spins: bool,
+    pub spins: bool,
 }
 
 /// What the cores of a board say, by number.
 #[derive(Drop)]
-pub(crate) struct Waiters {
+pub struct Waiters {
     says: [AtomicU64; 8],
     /// How many turns had been made when it began to wait, which the next holder notes.
     since: [AtomicU64; 8],
@@ -48,7 +53,7 @@ pub(crate) struct Waiters {
     kept_for: AtomicU64,
     cores: u32,
     /// How often who waits tries before it sleeps.
-    pub(crate) looks: u32,
+    pub looks: u32,
 }
 
 // One such word for each core.
@@ -66,7 +71,8 @@ fn words(first: u64) -> [AtomicU64; 8] {
 }
 
 impl Waiters {
-    pub(crate) fn new(cores: u32) -> Waiters {
+    /// Nobody waits yet, on a board of so many cores, 1 to 8.
+    pub fn new(cores: u32) -> Waiters {
         Waiters {
             says: words(BUSY),
             since: words(0),
@@ -85,30 +91,30 @@ impl Waiters {
     }
 
     /// Whether the core may take the bus where it is free.
-    pub(crate) fn may_take(&self, core: u32) -> bool {
+    pub fn may_take(&self, core: u32) -> bool {
         let kept_for = self.kept_for.load(Ordering::SeqCst);
         kept_for == ANYBODY || kept_for == core as u64 + 1
     }
 
     /// The core begins to wait.
-    pub(crate) fn begin(&self, core: u32) {
+    pub fn begin(&self, core: u32) {
         self.since(core).store(NOT_NOTED, Ordering::SeqCst);
         self.says(core).store(LOOKS, Ordering::SeqCst);
     }
 
     /// The core is about to sleep. It has to try once more before it does.
-    pub(crate) fn announce(&self, core: u32) {
+    pub fn announce(&self, core: u32) {
         self.says(core).store(SLEEPS, Ordering::SeqCst);
     }
 
     /// Sleeps until a wake, which may also come for no reason.
-    pub(crate) fn sleep<R: Wait>(&self, rt: &R, core: u32) {
+    pub fn sleep<R: Wait>(&self, rt: &R, core: u32) {
         self.says(core).park(rt, SLEEPS as u32);
         self.says(core).store(LOOKS, Ordering::SeqCst);
     }
 
     /// The core waits no longer: it has the bus.
-    pub(crate) fn end(&self, core: u32) {
+    pub fn end(&self, core: u32) {
         self.says(core).store(BUSY, Ordering::SeqCst);
     }
 
@@ -172,7 +178,7 @@ impl Waiters {
 
     /// The holder is about to give the bus back. A waiter is passed by fewer turns than two stays of each other core have, and
     /// woken at half of them. Answers who is to be woken, if the bus is kept for it, or soon will be.
-    pub(crate) fn choose(&self, end: &StayEnd) -> Option<u32> {
+    pub fn choose(&self, end: &StayEnd) -> Option<u32> {
         self.note(end.began);
         let Some((core, since)) = self.longest() else {
             self.keep_for(ANYBODY);
@@ -192,7 +198,7 @@ impl Waiters {
     }
 
     /// The bus has been given back: wakes the chosen core, or one that sleeps where nobody tries by itself.
-    pub(crate) fn hand_over(&self, chosen: Option<u32>) {
+    pub fn hand_over(&self, chosen: Option<u32>) {
         if let Some(core) = chosen {
             self.wake(core);
         } else if !self.some_looks() {
