@@ -185,12 +185,15 @@ fn two_callers<R: Threads + Wait + Sync>(
 fn two_callers_make_turns(rt: HostRuntime) -> Result<(), Fail> {
     let image = file(rt.alloc(), &ADD)?;
     let config = board_of(2);
-    assert!(rt; image.len() == 144);
+    assert!(rt; image.len() == 144, "the image");
     let closed = two_callers(&rt, rt.alloc(), &config, &image)?;
     let [text, console, again, shown] = both_ends(rt.alloc(), &config, &image, closed)?;
-    assert_eq!(rt; text, again);
-    assert_eq!(rt; console, shown);
-    assert!(rt; console.len() == 2 && console.contains(&40));
+    assert_eq!(rt; text, again, "the reports of run and replay");
+    assert_eq!(rt; console, shown, "the consoles of run and replay");
+    assert!(rt;
+        console.len() == 2 && console.contains(&40),
+        "the sum on the console"
+    );
     Ok(())
 }
 
@@ -227,7 +230,7 @@ fn two_cores_meet_on_two_threads(rt: HostRuntime) -> Result<(), Fail> {
         missed: AtomicU64::new(0),
     };
     let image = file(rt.alloc(), &STOP)?;
-    assert!(rt; image.len() == 144);
+    assert!(rt; image.len() == 144, "the image");
     let Ok(closed) = run(
         &rt,
         rt.alloc(),
@@ -239,9 +242,13 @@ fn two_cores_meet_on_two_threads(rt: HostRuntime) -> Result<(), Fail> {
     ) else {
         return Err("opening".into());
     };
-    assert_eq!(rt; gate.missed.load(Ordering::SeqCst), 0);
+    assert_eq!(rt;
+        gate.missed.load(Ordering::SeqCst),
+        0,
+        "threads that did not meet"
+    );
     for core in closed.cores.as_slice() {
-        assert_eq!(rt; core.stop(), Some(Stop::Exit(0)));
+        assert_eq!(rt; core.stop(), Some(Stop::Exit(0)), "how a core stopped");
     }
     Ok(())
 }
@@ -288,7 +295,7 @@ fn a_board_follows_a_schedule_of_stays(rt: HostRuntime) -> Result<(), Fail> {
 #[test]
 fn no_wake_is_lost(rt: HostRuntime) -> Result<(), Fail> {
     let image = file(rt.alloc(), &ADD)?;
-    assert!(rt; image.len() == 144);
+    assert!(rt; image.len() == 144, "the image");
     for _ in 0..20 {
         for stay in [1, 16, 256] {
             let input = Vec::new(rt.alloc());
@@ -303,7 +310,10 @@ fn no_wake_is_lost(rt: HostRuntime) -> Result<(), Fail> {
             ) else {
                 return Err("opening".into());
             };
-            assert!(rt; closed.bus.console().contains(&160));
+            assert!(rt;
+                closed.bus.console().contains(&160),
+                "the sum, stays of {stay} turns"
+            );
         }
     }
     Ok(())
@@ -331,7 +341,7 @@ fn a_gate_of_single_turns_is_passed_before_each(rt: HostRuntime) -> Result<(), F
         passes: AtomicU64::new(0),
     };
     let image = file(rt.alloc(), &ADD)?;
-    assert!(rt; image.len() == 144);
+    assert!(rt; image.len() == 144, "the image");
     let Ok(closed) = run(
         &rt,
         rt.alloc(),
@@ -345,7 +355,8 @@ fn a_gate_of_single_turns_is_passed_before_each(rt: HostRuntime) -> Result<(), F
     };
     assert_eq!(rt;
         gate.passes.load(Ordering::SeqCst),
-        closed.schedule.len() as u64
+        closed.schedule.len() as u64,
+        "stays of a single turn"
     );
     Ok(())
 }

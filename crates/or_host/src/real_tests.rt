@@ -41,16 +41,22 @@ fn creates<H: Host>(host: &mut H, name: &str) -> Result<(), Failed>
 fn directory_is_no_file(rt: HostRuntime) -> Result<(), Fail> {
     let mut host = FileHost::new(&rt);
     let (answer, taken) = loads(rt.alloc(), &mut host, ".", 9, 0);
-    assert!(rt; answer == Err(LoadFail::Failed));
-    assert!(rt; taken == Some(0));
+    assert!(rt; answer == Err(LoadFail::Failed), "loading a directory");
+    assert!(rt; taken == Some(0), "bytes of a directory");
     Ok(())
 }
 
 #[test]
 fn full_disk_fails_a_write(rt: HostRuntime) -> Result<(), Fail> {
     let mut host = FileHost::new(&rt);
-    assert!(rt; creates(&mut host, "/dev/full") == Ok(()));
-    assert!(rt; appends(&mut host, "/dev/full", b"x") == Err(Failed));
+    assert!(rt;
+        creates(&mut host, "/dev/full") == Ok(()),
+        "creating on a full disk"
+    );
+    assert!(rt;
+        appends(&mut host, "/dev/full", b"x") == Err(Failed),
+        "appending on a full disk"
+    );
     Ok(())
 }
 
@@ -63,13 +69,16 @@ fn long_file_loads_whole(rt: HostRuntime) -> Result<(), Fail> {
     let name = "or_host_long_file.tmp";
     let bytes = vec![in alloc; 7u8; LONG]?;
     let mut host = FileHost::new(&rt);
-    assert!(rt; creates(&mut host, name) == Ok(()));
-    assert!(rt; appends(&mut host, name, &bytes) == Ok(()));
+    assert!(rt; creates(&mut host, name) == Ok(()), "creating");
+    assert!(rt; appends(&mut host, name, &bytes) == Ok(()), "appending");
     let whole = loads(alloc, &mut host, name, LONG, 7);
     let short = loads(alloc, &mut host, name, LONG - 1, 7);
     fs::remove_file(&rt, name)?;
-    assert!(rt; whole == (Ok(()), Some(LONG)));
-    assert!(rt; short == (Err(LoadFail::TooLong), Some(LONG)));
+    assert!(rt; whole == (Ok(()), Some(LONG)), "at the limit");
+    assert!(rt;
+        short == (Err(LoadFail::TooLong), Some(LONG)),
+        "over the limit"
+    );
     Ok(())
 }
 
@@ -130,8 +139,8 @@ fn read_fails_in_mid_stream(rt: HostRuntime) -> Result<(), Fail> {
     };
     let mut host = FileHost::over(files, sink(), sink());
     let (answer, taken) = loads(rt.alloc(), &mut host, "a", LONG, 7);
-    assert!(rt; answer == Err(LoadFail::Failed));
-    assert!(rt; taken == Some(9000));
+    assert!(rt; answer == Err(LoadFail::Failed), "a read that fails");
+    assert!(rt; taken == Some(9000), "bytes before a read that fails");
     Ok(())
 }
 
@@ -144,7 +153,10 @@ fn parts_are_added_until_one_fails(rt: HostRuntime) -> Result<(), Fail> {
         written: 4000,
     };
     let mut host = FileHost::over(files, sink(), sink());
-    assert!(rt; appends(&mut host, "a", &bytes) == Ok(()));
-    assert!(rt; appends(&mut host, "a", &bytes) == Err(Failed));
+    assert!(rt; appends(&mut host, "a", &bytes) == Ok(()), "parts that fit");
+    assert!(rt;
+        appends(&mut host, "a", &bytes) == Err(Failed),
+        "a part that fails"
+    );
     Ok(())
 }

@@ -120,19 +120,23 @@ mod tests {
     // Numbers in decimal, without leading zeros and of 32 bits.
     #[test]
     fn numerals(rt: HostRuntime) {
-        let cases: [(&[u8], Option<u32>); 7] = [
-            (b"0", Some(0)),
-            (b"67108864", Some(67_108_864)),
-            (b"4294967295", Some(4_294_967_295)),
-            (b"4294967296", None),
-            (b"01", None),
-            (b"", None),
-            (b"+1", None),
+        let cases: [(&str, Option<u32>); 7] = [
+            ("0", Some(0)),
+            ("67108864", Some(67_108_864)),
+            ("4294967295", Some(4_294_967_295)),
+            ("4294967296", None),
+            ("01", None),
+            ("", None),
+            ("+1", None),
         ];
         for (text, number) in cases {
-            assert_eq!(rt; numerals::read_decimal(text), number);
+            assert_eq!(rt; numerals::read_decimal(text.as_bytes()), number, "`{text}`");
         }
-        assert_eq!(rt; numerals::size(16, b"fFfFfFfFfF"), Some(0x1_0000_0000));
+        assert_eq!(rt;
+            numerals::size(16, b"fFfFfFfFfF"),
+            Some(0x1_0000_0000),
+            "ten digits"
+        );
     }
 
     // What the calls append.
@@ -140,13 +144,26 @@ mod tests {
     fn texts(rt: HostRuntime) {
         let alloc: Global = rt.alloc();
         let mut out: Vec<u8> = Vec::new(alloc);
-        assert!(rt; append_decimal(18_446_744_073_709_551_615, &mut out).is_ok());
-        assert!(rt; append_signed(-2_147_483_648, &mut out).is_ok());
-        assert!(rt; append_hexadecimal(0x1F0A, &mut out).is_ok());
-        assert!(rt; append_word(0xAB, &mut out).is_ok());
-        assert!(rt; append_digest(&[0x0F, 0xA0], &mut out).is_ok());
         assert!(rt;
-            out.as_slice() == b"18446744073709551615-21474836480x1F0A000000AB0fa0".as_slice()
+            append_decimal(18_446_744_073_709_551_615, &mut out).is_ok(),
+            "append_decimal"
+        );
+        assert!(rt;
+            append_signed(-2_147_483_648, &mut out).is_ok(),
+            "append_signed"
+        );
+        assert!(rt;
+            append_hexadecimal(0x1F0A, &mut out).is_ok(),
+            "append_hexadecimal"
+        );
+        assert!(rt; append_word(0xAB, &mut out).is_ok(), "append_word");
+        assert!(rt;
+            append_digest(&[0x0F, 0xA0], &mut out).is_ok(),
+            "append_digest"
+        );
+        assert!(rt;
+            out.as_slice() == b"18446744073709551615-21474836480x1F0A000000AB0fa0".as_slice(),
+            "the text"
         );
     }
 }
