@@ -10,9 +10,7 @@ use Rattle.or_parts.specs.declared.Line.{Line}
 use Rattle.or_parts.specs.Memory.{stored, bytes_of, word_address}
 use Rattle.or_parts.specs.Lines.{index_of, line_of, line_at_index, line_bytes, no_lines, held_word, line_filled, line_dropped}
 use Rattle.or_parts.specs.Reservation.{Mark, stands_by}
-use Rattle.or_parts.specs.Bits.{has}
-use Rattle.or_parts.specs.Uart.{UartState, reset_uart, uart_after_read, uart_written}
-use Rattle.or_parts.specs.Ompic.{ompic_written, acknowledged, generated, destination_core, is_status_offset}
+use Rattle.or_parts.specs.Devices.{Devices, reset_devices, served_cores}
 use Rattle.or_model.specs.declared.Counts.{Counts}
 use Rattle.or_model.specs.World.{World, Access, after_load, after_store, after_drop, marked, unmarked, new_world, stands}
 use Rattle.or_model.specs.World.Kind.{Loads}
@@ -50,14 +48,14 @@ line_of_base pa = omega arith
 
 -- A BUS STAYS SOUND
 
-sound-filled : (cores : ℕ) (ram : List ℕ) (caches : List (List (Option Line))) (slots : List (Option ℕ)) (counts : List Counts) (statuses : List ℕ) (d pa : ℕ) → AreSound cores ram caches slots counts statuses → d < cores → line_of pa + 32 ≤ length ram
-    → AreSound cores ram (slice_set caches d (line_filled (cache_of caches d) pa (line_bytes ram pa))) slots counts statuses
-sound-filled cores ram caches slots counts statuses d pa sound known inside = record {
+sound-filled : (cores : ℕ) (ram : List ℕ) (caches : List (List (Option Line))) (slots : List (Option ℕ)) (counts : List Counts) (devices : Devices) (d pa : ℕ) → AreSound cores ram caches slots counts devices → d < cores → line_of pa + 32 ≤ length ram
+    → AreSound cores ram (slice_set caches d (line_filled (cache_of caches d) pa (line_bytes ram pa))) slots counts devices
+sound-filled cores ram caches slots counts devices d pa sound known inside = record {
   few = sound.few;
   all_caches = length-set caches d _ ∙ sound.all_caches;
   all_slots = sound.all_slots;
   all_counts = sound.all_counts;
-  all_statuses = sound.all_statuses;
+  all_served = sound.all_served;
   all_lines = each_set (λ c lines. c < cores → length lines ≡ 128) caches d _ [] (omega (arith, sound.all_caches))
       (λ k. length-filled (cache_of caches d) pa (line_bytes ram pa) ∙ sound.all_lines d k)
       (λ c ne k. sound.all_lines c k);
@@ -66,26 +64,26 @@ sound-filled cores ram caches slots counts statuses d pa sound known inside = re
       (λ c ne k. sound.coherent c k);
 }
 
-pub sound-kept : (cores : ℕ) (ram : List ℕ) (caches new : List (List (Option Line))) (slots : List (Option ℕ)) (counts : List Counts) (statuses : List ℕ) (d pa : ℕ) → AreSound cores ram caches slots counts statuses → d < cores → line_of pa + 32 ≤ length ram
-    → new ≡ slice_set caches d (line_filled (cache_of caches d) pa (line_bytes ram pa)) → AreSound cores ram new slots counts statuses
-sound-kept cores ram caches new slots counts statuses d pa sound known inside is =
-    subst (λ caches. AreSound cores ram caches slots counts statuses) (sym is) (sound-filled cores ram caches slots counts statuses d pa sound known inside)
+pub sound-kept : (cores : ℕ) (ram : List ℕ) (caches new : List (List (Option Line))) (slots : List (Option ℕ)) (counts : List Counts) (devices : Devices) (d pa : ℕ) → AreSound cores ram caches slots counts devices → d < cores → line_of pa + 32 ≤ length ram
+    → new ≡ slice_set caches d (line_filled (cache_of caches d) pa (line_bytes ram pa)) → AreSound cores ram new slots counts devices
+sound-kept cores ram caches new slots counts devices d pa sound known inside is =
+    subst (λ caches. AreSound cores ram caches slots counts devices) (sym is) (sound-filled cores ram caches slots counts devices d pa sound known inside)
 
-sound-drop : (cores : ℕ) (ram : List ℕ) (caches : List (List (Option Line))) (slots : List (Option ℕ)) (counts : List Counts) (statuses : List ℕ) (d pa : ℕ) → d < cores → AreSound cores ram caches slots counts statuses → AreSound cores ram (slice_set caches d (line_dropped (cache_of caches d) pa)) slots counts statuses
-sound-drop cores ram caches slots counts statuses d pa known sound = record {
+sound-drop : (cores : ℕ) (ram : List ℕ) (caches : List (List (Option Line))) (slots : List (Option ℕ)) (counts : List Counts) (devices : Devices) (d pa : ℕ) → d < cores → AreSound cores ram caches slots counts devices → AreSound cores ram (slice_set caches d (line_dropped (cache_of caches d) pa)) slots counts devices
+sound-drop cores ram caches slots counts devices d pa known sound = record {
   few = sound.few;
   all_caches = length-set caches d _ ∙ sound.all_caches;
   all_slots = sound.all_slots;
   all_counts = sound.all_counts;
-  all_statuses = sound.all_statuses;
+  all_served = sound.all_served;
   all_lines = each_set (λ c lines. c < cores → length lines ≡ 128) caches d _ [] (omega (arith, sound.all_caches)) (λ k. length-dropped (cache_of caches d) pa ∙ sound.all_lines d k) (λ c ne k. sound.all_lines c k);
   coherent = each_set (λ c lines. c < cores → IsCoherent ram lines) caches d _ [] (omega (arith, sound.all_caches)) (λ k. coherent-dropped ram (cache_of caches d) pa (sound.all_lines d k) (sound.coherent d k)) (λ c ne k. sound.coherent c k);
 }
 
-pub sound-dropped : (cores : ℕ) (ram : List ℕ) (caches new : List (List (Option Line))) (slots : List (Option ℕ)) (counts : List Counts) (statuses : List ℕ) (d pa : ℕ) → AreSound cores ram caches slots counts statuses → d < cores
-    → new ≡ slice_set caches d (line_dropped (cache_of caches d) pa) → AreSound cores ram new slots counts statuses
-sound-dropped cores ram caches new slots counts statuses d pa sound known is =
-    subst (λ b. AreSound cores ram b slots counts statuses) (sym is) (sound-drop cores ram caches slots counts statuses d pa known sound)
+pub sound-dropped : (cores : ℕ) (ram : List ℕ) (caches new : List (List (Option Line))) (slots : List (Option ℕ)) (counts : List Counts) (devices : Devices) (d pa : ℕ) → AreSound cores ram caches slots counts devices → d < cores
+    → new ≡ slice_set caches d (line_dropped (cache_of caches d) pa) → AreSound cores ram new slots counts devices
+sound-dropped cores ram caches new slots counts devices d pa sound known is =
+    subst (λ b. AreSound cores ram b slots counts devices) (sym is) (sound-drop cores ram caches slots counts devices d pa known sound)
 
 sound-here : (ram : List ℕ) (lines : List (Option Line)) (pa v : ℕ) (width : Width) (cached : Bool) → pa % bytes_of width ≡ 0 → length lines ≡ 128 → IsCoherent ram lines → IsCoherent (stored ram pa width v) (own_lines_after lines pa width v cached)
 sound-here ram lines pa v width true aligned len is = coherent-updated ram lines pa v width len aligned is
@@ -95,14 +93,14 @@ length-here : (lines : List (Option Line)) (pa v : ℕ) (width : Width) (cached 
 length-here lines pa v width true = length-updated lines pa v width
 length-here lines pa v width false = length-dropped lines pa
 
-sound-store : (cores : ℕ) (ram : List ℕ) (caches new : List (List (Option Line))) (slots : List (Option ℕ)) (counts : List Counts) (statuses : List ℕ) (d pa v : ℕ) (width : Width) (cached : Bool) → d < cores → pa % bytes_of width ≡ 0 → AreSound cores ram caches slots counts statuses → AreWritten caches d pa v width cached new
-    → AreSound cores (stored ram pa width v) new (map (after_write (word_address pa)) slots) counts statuses
-sound-store cores ram caches new slots counts statuses d pa v width cached known aligned sound change = record {
+sound-store : (cores : ℕ) (ram : List ℕ) (caches new : List (List (Option Line))) (slots : List (Option ℕ)) (counts : List Counts) (devices : Devices) (d pa v : ℕ) (width : Width) (cached : Bool) → d < cores → pa % bytes_of width ≡ 0 → AreSound cores ram caches slots counts devices → AreWritten caches d pa v width cached new
+    → AreSound cores (stored ram pa width v) new (map (after_write (word_address pa)) slots) counts devices
+sound-store cores ram caches new slots counts devices d pa v width cached known aligned sound change = record {
   few = sound.few;
   all_caches = change.same_length ∙ sound.all_caches;
   all_slots = simp length-map sound.all_slots;
   all_counts = sound.all_counts;
-  all_statuses = sound.all_statuses;
+  all_served = sound.all_served;
   all_lines = each_core (λ c. c < cores → length (cache_of new c) ≡ 128) d
       (λ k. ap length change.own ∙ length-here (cache_of caches d) pa v width cached ∙ sound.all_lines d k)
       (λ c ne k. ap length (change.others c (omega (arith, sound.all_caches)) ne) ∙ length-dropped (cache_of caches c) pa ∙ sound.all_lines c k);
@@ -112,12 +110,12 @@ sound-store cores ram caches new slots counts statuses d pa v width cached known
 }
 
 -- after a store each valid line is again what RAM holds
-pub sound-written : (cores : ℕ) (ram after : List ℕ) (caches new : List (List (Option Line))) (slots left : List (Option ℕ)) (counts : List Counts) (statuses : List ℕ) (d pa v : ℕ) (width : Width) (cached : Bool) → AreSound cores ram caches slots counts statuses → d < cores → pa % bytes_of width ≡ 0 → AreWritten caches d pa v width cached new
-    → after ≡ stored ram pa width v → left ≡ map (after_write (word_address pa)) slots → AreSound cores after new left counts statuses
-sound-written cores ram after caches new slots left counts statuses d pa v width cached sound known aligned change is_after is_left =
-    subst (λ l. AreSound cores after new l counts statuses) (sym is_left)
-    (subst (λ r. AreSound cores r new (map (after_write (word_address pa)) slots) counts statuses) (sym is_after)
-    (sound-store cores ram caches new slots counts statuses d pa v width cached known aligned sound change))
+pub sound-written : (cores : ℕ) (ram after : List ℕ) (caches new : List (List (Option Line))) (slots left : List (Option ℕ)) (counts : List Counts) (devices : Devices) (d pa v : ℕ) (width : Width) (cached : Bool) → AreSound cores ram caches slots counts devices → d < cores → pa % bytes_of width ≡ 0 → AreWritten caches d pa v width cached new
+    → after ≡ stored ram pa width v → left ≡ map (after_write (word_address pa)) slots → AreSound cores after new left counts devices
+sound-written cores ram after caches new slots left counts devices d pa v width cached sound known aligned change is_after is_left =
+    subst (λ l. AreSound cores after new l counts devices) (sym is_left)
+    (subst (λ r. AreSound cores r new (map (after_write (word_address pa)) slots) counts devices) (sym is_after)
+    (sound-store cores ram caches new slots counts devices d pa v width cached known aligned sound change))
 
 -- A LOAD
 
@@ -126,9 +124,8 @@ represents-hit : (bus : BusState) (world : World) (d pa : ℕ) → d < bus.cores
 unfolding after_load stands
 represents-hit bus world d pa known sound hit is = record {
   ram = is.ram;
-  uart = is.uart;
-  ompic = is.ompic;
-  valid = record { marks = is.valid.marks; reached = is.valid.reached; ompic = is.valid.ompic };
+  devices = is.devices;
+  valid = record { marks = is.valid.marks; reached = is.valid.reached; devices = is.valid.devices };
   writes = is.writes;
   lines = λ c line h base. each_core (λ c. c < bus.cores → holds (cache_of bus.caches c) line ≡ held (load_of d (line_of pa) ∷ world.accesses) c line) d
       (λ k. told-hit world.accesses d (line_of pa) (cache_of bus.caches d) hit (λ l b. is.lines d l k b) line base)
@@ -153,15 +150,14 @@ represents-miss : (bus : BusState) (world : World) (d pa reads : ℕ) → d < bu
 unfolding after_load stands
 represents-miss bus world d pa reads known sound inside miss is = record {
   ram = is.ram;
-  uart = is.uart;
-  ompic = is.ompic;
-  valid = record { marks = is.valid.marks; reached = is.valid.reached; ompic = is.valid.ompic };
+  devices = is.devices;
+  valid = record { marks = is.valid.marks; reached = is.valid.reached; devices = is.valid.devices };
   writes = is.writes;
   lines = λ c line h base. each_set (λ c lines. c < bus.cores → holds lines line ≡ held (load_of d (line_of pa) ∷ world.accesses) c line) bus.caches d _ [] (omega (arith, sound.all_caches))
       (λ k. told-miss world.accesses d pa (line_bytes bus.ram pa) (cache_of bus.caches d) (sound.all_lines d k) (λ l b. is.lines d l k b) line base)
       (λ c ne k. told-other_load world.accesses c d (line_of pa) (cache_of bus.caches c) ne (λ l b. is.lines c l k b) line base)
       c h;
-  coherent = (sound-filled bus.cores bus.ram bus.caches bus.slots bus.counts bus.ompic d pa sound known inside).coherent;
+  coherent = (sound-filled bus.cores bus.ram bus.caches bus.slots bus.counts bus.devices d pa sound known inside).coherent;
   reserved = is.reserved;
   counted = each_set (λ c counts. c < bus.cores → IsCount (load_of d (line_of pa) ∷ world.accesses) c counts) bus.counts d _ no_counts (omega (arith, sound.few, sound.all_counts))
       (λ k. count-miss world.accesses d (line_of pa) _ (sym (is.lines d (line_of pa) k (line_of_base pa)) ∙ miss) (is.counted d k))
@@ -179,9 +175,8 @@ represents-plain_load : (bus : BusState) (world : World) (d pa reads : ℕ) → 
 unfolding after_load stands
 represents-plain_load bus world d pa reads is = record {
   ram = is.ram;
-  uart = is.uart;
-  ompic = is.ompic;
-  valid = record { marks = is.valid.marks; reached = is.valid.reached; ompic = is.valid.ompic };
+  devices = is.devices;
+  valid = record { marks = is.valid.marks; reached = is.valid.reached; devices = is.valid.devices };
   writes = is.writes;
   lines = is.lines;
   coherent = is.coherent;
@@ -193,14 +188,14 @@ represents-plain_load bus world d pa reads is = record {
 pub track-plain_load : (bus new : BusState) (world : World) (d pa : ℕ) → new ≡ with_read bus → Represents bus world → Represents new (after_load world d pa false)
 track-plain_load bus new world d pa is before = subst (λ b. Represents b (after_load world d pa false)) (sym is) (represents-plain_load bus world d pa (counted_up bus.reads) before)
 
--- whether a word is found is what Held says
+-- whether a word is found is what `held` says
 pub found-held : (bus : BusState) (world : World) (d pa : ℕ) → d < bus.cores → Represents bus world → is_some (held_word (cache_of bus.caches d) pa) ≡ held world.accesses d (line_of pa)
 found-held bus world d pa known is = sym (holds-held_word (cache_of bus.caches d) pa) ∙ is.lines d (line_of pa) known (line_of_base pa)
 
 -- A CHANGE THAT NO WORLD TELLS
 
 represents-untold : (bus : BusState) (world : World) (reads : ℕ) (last : Option _) → Represents bus world → Represents (record bus { reads = reads; last = last }) world
-represents-untold bus world reads last is = record { ram = is.ram; uart = is.uart; ompic = is.ompic; valid = is.valid; writes = is.writes; lines = is.lines; coherent = is.coherent; reserved = is.reserved; counted = is.counted }
+represents-untold bus world reads last is = record { ram = is.ram; devices = is.devices; valid = is.valid; writes = is.writes; lines = is.lines; coherent = is.coherent; reserved = is.reserved; counted = is.counted }
 
 pub track-read : (bus new : BusState) (world : World) → new ≡ with_read bus → Represents bus world → Represents new world
 track-read bus new world is before = subst (λ b. Represents b world) (sym is) (represents-untold bus world (counted_up bus.reads) bus.last before)
@@ -228,15 +223,14 @@ represents-store : (bus : BusState) (world : World) (d pa v reads : ℕ) (width 
 unfolding after_store stands
 represents-store bus world d pa v reads width cached caches known aligned sound change is = record {
   ram = ap (λ ram. stored ram pa width v) is.ram;
-  uart = is.uart;
-  ompic = is.ompic;
-  valid = record { marks = is.valid.marks; reached = λ c word k e. simp length-append (omega (arith, is.valid.reached c word k e)); ompic = is.valid.ompic };
+  devices = is.devices;
+  valid = record { marks = is.valid.marks; reached = λ c word k e. simp length-append (omega (arith, is.valid.reached c word k e)); devices = is.valid.devices };
   writes = simp length-append (omega (arith, is.writes));
   lines = λ c line h base. each_core (λ c. c < bus.cores → holds (cache_of caches c) line ≡ held (store_of d (line_of pa) cached ∷ world.accesses) c line) d
       (λ k. ap (λ lines. holds lines line) change.own ∙ told-store_here world.accesses d pa v width cached (cache_of bus.caches d) (sound.all_lines d k) (λ l b. is.lines d l k b) line base)
       (λ c ne k. ap (λ lines. holds lines line) (change.others c (omega (arith, sound.all_caches)) ne) ∙ told-other_store world.accesses c d pa cached (cache_of bus.caches c) (sound.all_lines c k) (λ e. ne) (λ l b. is.lines c l k b) line base)
       c h;
-  coherent = (sound-store bus.cores bus.ram bus.caches caches bus.slots bus.counts bus.ompic d pa v width cached known aligned sound change).coherent;
+  coherent = (sound-store bus.cores bus.ram bus.caches caches bus.slots bus.counts bus.devices d pa v width cached known aligned sound change).coherent;
   reserved = λ c word h. ap (is_for word) (get_or-map (after_write (word_address pa)) bus.slots c None)
       ∙ slot-wrote world.writes d (word_address pa) (slice_index_or world.marks c None) (slice_index_or bus.slots c None) (λ w k e. is.valid.reached c w k e) (λ w. is.reserved c w h) word;
   counted = λ c h. count-same world.accesses (store_of d (line_of pa) cached) c _ refl (is.counted c h);
@@ -244,11 +238,11 @@ represents-store bus world d pa v reads width cached caches known aligned sound 
 
 pub track_store : (bus new : BusState) (world : World) (d pa v : ℕ) (width : Width) (cached : Bool) → d < bus.cores → pa % bytes_of width ≡ 0 → IsSound bus → IsWritten bus d pa v width cached new → Represents bus world → Represents new (after_store world d pa width v cached)
 track_store bus new world d pa v width cached known aligned sound change is =
-    let same : new ≡ written bus new.reads pa width v new.caches = written-is bus new pa v width change.same_cores change.ram_after change.slots_after change.writes_after change.same_counts change.same_uart change.same_spare change.same_ompic change.same_last in
+    let same : new ≡ written bus new.reads pa width v new.caches = written-is bus new pa v width change.same_cores change.ram_after change.slots_after change.writes_after change.same_counts change.same_devices change.same_spare change.same_last in
     subst (λ b. Represents b (after_store world d pa width v cached)) (sym same) (represents-store bus world d pa v new.reads width cached new.caches known aligned sound change.caches_after is)
   where
-    written-is : (bus new : BusState) (pa v : ℕ) (width : Width) → new.cores ≡ bus.cores → new.ram ≡ stored bus.ram pa width v → new.slots ≡ map (after_write (word_address pa)) bus.slots → new.writes ≡ counted_up bus.writes → new.counts ≡ bus.counts → new.uart ≡ bus.uart → new.spare ≡ bus.spare → new.ompic ≡ bus.ompic → new.last ≡ bus.last → new ≡ written bus new.reads pa width v new.caches
-    written-is bus new pa v width e1 e2 e3 e4 e5 e6 e7 e8 e9 = let e : ◌≡◌ {A = BusState} (record { cores = new.cores; ram = new.ram; reads = new.reads; caches = new.caches; slots = new.slots; counts = new.counts; writes = new.writes; uart = new.uart; spare = new.spare; ompic = new.ompic; last = new.last }) (written bus new.reads pa width v new.caches) = cc in e
+    written-is : (bus new : BusState) (pa v : ℕ) (width : Width) → new.cores ≡ bus.cores → new.ram ≡ stored bus.ram pa width v → new.slots ≡ map (after_write (word_address pa)) bus.slots → new.writes ≡ counted_up bus.writes → new.counts ≡ bus.counts → new.devices ≡ bus.devices → new.spare ≡ bus.spare → new.last ≡ bus.last → new ≡ written bus new.reads pa width v new.caches
+    written-is bus new pa v width e1 e2 e3 e4 e5 e6 e7 e8 = let e : ◌≡◌ {A = BusState} (record { cores = new.cores; ram = new.ram; reads = new.reads; caches = new.caches; slots = new.slots; counts = new.counts; writes = new.writes; devices = new.devices; spare = new.spare; last = new.last }) (written bus new.reads pa width v new.caches) = cc in e
 
 -- MARKS
 
@@ -263,12 +257,11 @@ marks_change : (bus : BusState) (world : World) (d : ℕ) (mark : Option Mark) (
 unfolding stands
 marks_change bus world d mark slot known sound is reached of = record {
   ram = is.ram;
-  uart = is.uart;
-  ompic = is.ompic;
+  devices = is.devices;
   valid = record {
     marks = length-set world.marks d _ ∙ is.valid.marks;
     reached = each_set (λ c mark. (w k : ℕ) → mark ≡ Some (w, k) → k ≤ length world.writes) world.marks d mark None (omega (arith, is.valid.marks)) reached (λ c ne. is.valid.reached c);
-    ompic = is.valid.ompic;
+    devices = is.valid.devices;
   };
   writes = is.writes;
   lines = is.lines;
@@ -309,15 +302,14 @@ represents-drop : (bus : BusState) (world : World) (d pa : ℕ) → d < bus.core
 unfolding after_drop stands
 represents-drop bus world d pa known sound is = record {
   ram = is.ram;
-  uart = is.uart;
-  ompic = is.ompic;
-  valid = record { marks = is.valid.marks; reached = is.valid.reached; ompic = is.valid.ompic };
+  devices = is.devices;
+  valid = record { marks = is.valid.marks; reached = is.valid.reached; devices = is.valid.devices };
   writes = is.writes;
   lines = λ c line h base. each_set (λ c lines. c < bus.cores → holds lines line ≡ held (drop_of d (line_of pa) ∷ world.accesses) c line) bus.caches d _ [] (omega (arith, sound.all_caches))
       (λ k. told-own_drop world.accesses d pa (cache_of bus.caches d) (sound.all_lines d k) (λ l b. is.lines d l k b) line base)
       (λ c ne k. told-other_drop world.accesses c d (line_of pa) (cache_of bus.caches c) ne (λ l b. is.lines c l k b) line base)
       c h;
-  coherent = (sound-drop bus.cores bus.ram bus.caches bus.slots bus.counts bus.ompic d pa known sound).coherent;
+  coherent = (sound-drop bus.cores bus.ram bus.caches bus.slots bus.counts bus.devices d pa known sound).coherent;
   reserved = is.reserved;
   counted = λ c h. count-same world.accesses (drop_of d (line_of pa)) c _ refl (is.counted c h);
 }
@@ -327,30 +319,12 @@ track-drop bus new world d pa known sound is before = subst (λ b. Represents b 
 
 -- THE DEVICES
 
-length-if : (b : Bool) (xs ys : List ℕ) → length ys ≡ length xs → length (if b then xs else ys) ≡ length xs
-length-if true xs ys same = refl
-length-if false xs ys same = same
-
-length-set_if : (b : Bool) (xs : List ℕ) (i x : ℕ) → length (if b then slice_set xs i x else xs) ≡ length xs
-length-set_if true xs i x = length-set xs i x
-length-set_if false xs i x = refl
-
--- a write changes no number of statuses
-length-ompic_written : (statuses : List ℕ) (offset v : ℕ) → length (ompic_written statuses offset v) ≡ length statuses
-unfolding ompic_written
-length-ompic_written statuses offset v =
-    let before : List ℕ = acknowledged statuses (offset / 8) v in
-    length-if (is_status_offset offset) statuses (generated before (offset / 8) v)
-    (length-set_if (has v 0x40000000 && nat_lt (destination_core v) (length before)) before (destination_core v) (0x40000000 + offset / 8 * 0x10000 + v % 0x10000)
-    ∙ length-set_if (has v 0x80000000) statuses (offset / 8) 0)
-
-represents-uart : (bus : BusState) (world : World) (state : UartState) (spare : ℕ) → Represents bus world → Represents (record bus { uart = state; spare = spare }) (record world { uart = state })
+represents-devices : (bus : BusState) (world : World) (devices : Devices) (spare : ℕ) → served_cores devices ≡ bus.cores → Represents bus world → Represents (record bus { devices = devices; spare = spare }) (record world { devices = devices })
 unfolding stands
-represents-uart bus world state spare is = record {
+represents-devices bus world devices spare all is = record {
   ram = is.ram;
-  uart = refl;
-  ompic = is.ompic;
-  valid = record { marks = is.valid.marks; reached = is.valid.reached; ompic = is.valid.ompic };
+  devices = refl;
+  valid = record { marks = is.valid.marks; reached = is.valid.reached; devices = all };
   writes = is.writes;
   lines = is.lines;
   coherent = is.coherent;
@@ -358,45 +332,21 @@ represents-uart bus world state spare is = record {
   counted = is.counted;
 }
 
-pub track-uart_read : (bus new : BusState) (world : World) (reg : ℕ) → new ≡ record bus { uart = uart_after_read bus.uart reg } → Represents bus world → Represents new (record world { uart = uart_after_read world.uart reg })
-track-uart_read bus new world reg is before =
-    subst (λ b. Represents b (record world { uart = uart_after_read world.uart reg })) (sym is)
-    (subst (λ u. Represents (record bus { uart = uart_after_read bus.uart reg }) (record world { uart = uart_after_read u reg })) before.uart
-    (represents-uart bus world (uart_after_read bus.uart reg) bus.spare before))
+-- the devices of the bus change as those of the world
+pub track-devices : (bus new : BusState) (world : World) (change : Devices → Devices) (spare : ℕ) → IsSound new → new ≡ record bus { devices = change bus.devices; spare = spare } → Represents bus world → Represents new (record world { devices = change world.devices })
+track-devices bus new world change spare sound is before =
+    let all : served_cores (change bus.devices) ≡ bus.cores = subst (λ (b : BusState). served_cores b.devices ≡ b.cores) is sound.all_served in
+    subst (λ b. Represents b (record world { devices = change world.devices })) (sym is)
+    (subst (λ d. Represents (record bus { devices = change bus.devices; spare = spare }) (record world { devices = change d })) before.devices
+    (represents-devices bus world (change bus.devices) spare all before))
 
-pub track-uart_written : (bus new : BusState) (world : World) (reg v spare : ℕ) → new ≡ record bus { uart = uart_written bus.uart reg v; spare = spare } → Represents bus world → Represents new (record world { uart = uart_written world.uart reg v })
-track-uart_written bus new world reg v spare is before =
-    subst (λ b. Represents b (record world { uart = uart_written world.uart reg v })) (sym is)
-    (subst (λ u. Represents (record bus { uart = uart_written bus.uart reg v; spare = spare }) (record world { uart = uart_written u reg v })) before.uart
-    (represents-uart bus world (uart_written bus.uart reg v) spare before))
-
-represents-ompic : (bus : BusState) (world : World) (statuses : List ℕ) → length statuses ≡ bus.cores → Represents bus world → Represents (record bus { ompic = statuses }) (record world { ompic = statuses })
-unfolding stands
-represents-ompic bus world statuses all is = record {
-  ram = is.ram;
-  uart = is.uart;
-  ompic = refl;
-  valid = record { marks = is.valid.marks; reached = is.valid.reached; ompic = all };
-  writes = is.writes;
-  lines = is.lines;
-  coherent = is.coherent;
-  reserved = is.reserved;
-  counted = is.counted;
-}
-
-pub track-ompic_written : (bus new : BusState) (world : World) (offset v : ℕ) → IsSound bus → new ≡ record bus { ompic = ompic_written bus.ompic offset v } → Represents bus world → Represents new (record world { ompic = ompic_written world.ompic offset v })
-track-ompic_written bus new world offset v sound is before =
-    subst (λ b. Represents b (record world { ompic = ompic_written world.ompic offset v })) (sym is)
-    (subst (λ s. Represents (record bus { ompic = ompic_written bus.ompic offset v }) (record world { ompic = ompic_written s offset v })) before.ompic
-    (represents-ompic bus world (ompic_written bus.ompic offset v) (length-ompic_written bus.ompic offset v ∙ sound.all_statuses) before))
-
-pub sound-ompic_written : (cores : ℕ) (ram : List ℕ) (caches : List (List (Option Line))) (slots : List (Option ℕ)) (counts : List Counts) (statuses new : List ℕ) (offset v : ℕ) → AreSound cores ram caches slots counts statuses → new ≡ ompic_written statuses offset v → AreSound cores ram caches slots counts new
-sound-ompic_written cores ram caches slots counts statuses new offset v sound is = record {
+pub sound-devices : (cores : ℕ) (ram : List ℕ) (caches : List (List (Option Line))) (slots : List (Option ℕ)) (counts : List Counts) (devices new : Devices) → AreSound cores ram caches slots counts devices → served_cores new ≡ served_cores devices → AreSound cores ram caches slots counts new
+sound-devices cores ram caches slots counts devices new sound same = record {
   few = sound.few;
   all_caches = sound.all_caches;
   all_slots = sound.all_slots;
   all_counts = sound.all_counts;
-  all_statuses = ap length is ∙ length-ompic_written statuses offset v ∙ sound.all_statuses;
+  all_served = same ∙ sound.all_served;
   all_lines = sound.all_lines;
   coherent = sound.coherent;
 }
@@ -415,24 +365,27 @@ coherent-start : (cores : ℕ) (ram : List ℕ) (caches : List (List (Option Lin
 coherent-start cores ram caches no_caches c h =
     subst (λ b. IsCoherent ram (cache_of b c)) (sym no_caches) (subst (IsCoherent ram) (sym (cache_at cores c h)) (λ index line k is. absurd (none_is_some (sym (none_at 128 index) ∙ is))))
 
-pub sound-start : (cores : ℕ) (ram : List ℕ) (caches : List (List (Option Line))) (slots : List (Option ℕ)) (counts : List Counts) (statuses : List ℕ) → cores ≤ 8 → caches ≡ replicate cores no_lines → slots ≡ replicate 8 None → length counts ≡ 8 → length statuses ≡ cores → AreSound cores ram caches slots counts statuses
-sound-start cores ram caches slots counts statuses few no_caches no_slots eight all = record {
+pub served-reset : (cores : ℕ) (input : List ℕ) (devices : Devices) → devices ≡ reset_devices cores input → served_cores devices ≡ cores
+unfolding reset_devices
+served-reset cores input devices is = ap served_cores is ∙ length-replicate cores 0
+
+pub sound-start : (cores : ℕ) (ram : List ℕ) (caches : List (List (Option Line))) (slots : List (Option ℕ)) (counts : List Counts) (devices : Devices) → cores ≤ 8 → caches ≡ replicate cores no_lines → slots ≡ replicate 8 None → length counts ≡ 8 → served_cores devices ≡ cores → AreSound cores ram caches slots counts devices
+sound-start cores ram caches slots counts devices few no_caches no_slots eight all = record {
   few = few;
   all_caches = ap length no_caches ∙ length-replicate cores no_lines;
   all_slots = ap length no_slots;
   all_counts = eight;
-  all_statuses = all;
+  all_served = all;
   all_lines = λ c h. ap (λ b. length (cache_of b c)) no_caches ∙ ap length (cache_at cores c h);
   coherent = coherent-start cores ram caches no_caches;
 }
 
-pub represents-start : (bus : BusState) (input : List ℕ) → bus.caches ≡ replicate bus.cores no_lines → bus.slots ≡ replicate 8 None → bus.counts ≡ replicate 8 no_counts → bus.writes ≡ 0 → bus.uart ≡ reset_uart input → bus.ompic ≡ replicate bus.cores 0 → Represents bus (new_world bus.ram bus.cores input)
-unfolding new_world stands holds
-represents-start bus input no_caches no_slots no_hits no_writes reset quiet = record {
+pub represents-start : (bus : BusState) (input : List ℕ) → bus.caches ≡ replicate bus.cores no_lines → bus.slots ≡ replicate 8 None → bus.counts ≡ replicate 8 no_counts → bus.writes ≡ 0 → bus.devices ≡ reset_devices bus.cores input → Represents bus (new_world bus.ram bus.cores input)
+unfolding new_world reset_devices stands holds
+represents-start bus input no_caches no_slots no_hits no_writes reset = record {
   ram = refl;
-  uart = reset;
-  ompic = quiet;
-  valid = record { marks = length-replicate bus.cores None; reached = λ c word k e. absurd (none_is_some (sym (none_at bus.cores c) ∙ e)); ompic = length-replicate bus.cores 0 };
+  devices = reset;
+  valid = record { marks = length-replicate bus.cores None; reached = λ c word k e. absurd (none_is_some (sym (none_at bus.cores c) ∙ e)); devices = length-replicate bus.cores 0 };
   writes = no_writes;
   lines = λ c line h base. ap (λ b. is_line line (slice_index_or (cache_of b c) (index_of line) None)) no_caches
       ∙ ap (λ b. is_line line (slice_index_or b (index_of line) None)) (cache_at bus.cores c h) ∙ ap (is_line line) (none_at 128 (index_of line));

@@ -2,6 +2,7 @@
 use Rattle.std.specs.Prelude.{◌≡◌, ℕ, ◌+◌, ◌%◌, ◌<◌, ◌≤◌, List, Option, Some, length, slice_range}
 use Rattle.or_parts.specs.declared.Line.{Line}
 use Rattle.or_parts.specs.Lines.{index_of, line_at_index}
+use Rattle.or_parts.specs.Devices.{Devices, served_cores}
 use Rattle.or_model.specs.declared.Counts.{Counts}
 use Rattle.or_mem.specs.Caches.{cache_of}
 use Rattle.or_bus.specs.State.{BusState}
@@ -17,15 +18,15 @@ pub record IsLineOf (ram : List ℕ) (index : ℕ) (line : Line) : Type 0 where
 abbrev pub IsCoherent : List ℕ → List (Option Line) → Type 0
 IsCoherent ram lines = (index : ℕ) (line : Line) → index < 128 → line_at_index lines index ≡ Some line → IsLineOf ram index line
 
--- so does each cache; there is a cache and a status for each core, and a slot and counts for each of eight
-pub record AreSound (cores : ℕ) (ram : List ℕ) (caches : List (List (Option Line))) (slots : List (Option ℕ)) (counts : List Counts) (statuses : List ℕ) : Type 0 where
+-- so does each cache; there is a cache for each core, the devices serve each core, and there is a slot and counts for each of eight
+pub record AreSound (cores : ℕ) (ram : List ℕ) (caches : List (List (Option Line))) (slots : List (Option ℕ)) (counts : List Counts) (devices : Devices) : Type 0 where
   pub few : cores ≤ 8
   pub all_caches : length caches ≡ cores
   pub all_slots : length slots ≡ 8
   pub all_counts : length counts ≡ 8
-  pub all_statuses : length statuses ≡ cores
+  pub all_served : served_cores devices ≡ cores
   pub all_lines : (c : ℕ) → c < cores → length (cache_of caches c) ≡ 128
   pub coherent : (c : ℕ) → c < cores → IsCoherent ram (cache_of caches c)
 
 abbrev pub IsSound : BusState → Type 0
-IsSound bus = AreSound bus.cores bus.ram bus.caches bus.slots bus.counts bus.ompic
+IsSound bus = AreSound bus.cores bus.ram bus.caches bus.slots bus.counts bus.devices

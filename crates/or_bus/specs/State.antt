@@ -1,7 +1,7 @@
 -- What contracts see of a bus.
 use Rattle.std.specs.Prelude.{ℕ, ◌+◌, min, List, Option, slice_index_or}
 use Rattle.or_parts.specs.declared.Line.{Line}
-use Rattle.or_parts.specs.Uart.{UartState}
+use Rattle.or_parts.specs.Devices.{Devices}
 use Rattle.or_model.specs.declared.Counts.{Counts}
 use Rattle.or_mem.specs.Memory.{last_count}
 use Rattle.or_bus.specs.declared.access.Access.{Access}
@@ -19,11 +19,9 @@ pub record BusState : Type 0 where
   pub counts : List Counts
   -- how often RAM was written
   pub writes : ℕ
-  pub uart : UartState
+  pub devices : Devices
   -- how many bytes more the console has room for
   pub spare : ℕ
-  -- for each core, its status word
-  pub ompic : List ℕ
   -- the last access to RAM that was noted
   pub last : Option Access
 

@@ -28,7 +28,6 @@ pub record IsWritten (old : BusState) (d pa v : ℕ) (width : Width) (cached : B
   pub same_cores : new.cores ≡ old.cores
   pub same_reads : new.reads ≡ old.reads
   pub same_counts : new.counts ≡ old.counts
-  pub same_uart : new.uart ≡ old.uart
+  pub same_devices : new.devices ≡ old.devices
   pub same_spare : new.spare ≡ old.spare
-  pub same_ompic : new.ompic ≡ old.ompic
   pub same_last : new.last ≡ old.last

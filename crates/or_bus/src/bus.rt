@@ -5,10 +5,10 @@ ghost use Rattle.or_words.specs.declared.Width.TheVariants.{Word};
 ghost use Rattle.or_words.specs.Settings.{Fits, ram_bytes};
 ghost use Rattle.or_parts.specs.Memory.{value_at, stored, bytes_of, word_address};
 ghost use Rattle.or_parts.specs.Lines.{line_of, line_bytes, line_at_index, held_word, line_filled, line_dropped};
-ghost use Rattle.or_parts.specs.Uart.{uart_value, uart_after_read, uart_written, uart_line, reset_uart};
-ghost use Rattle.or_parts.specs.Ompic.{ompic_value, ompic_written, is_ompic_pending};
+ghost use Rattle.or_parts.specs.Devices.{console_of, device_value, device_after_read, device_written, interrupt_lines};
 ghost use Rattle.or_model.specs.World.{World, marked, unmarked, new_world, stands};
 ghost use Rattle.or_model.specs.Bus.{region, region_of};
+ghost use Rattle.or_dev.specs.Devices.{HasRegister};
 ghost use Rattle.or_bus.specs.Places.{IsInside, is_ram};
 ghost use Rattle.or_mem.specs.Caches.{cache_of, address_and_bytes};
 ghost use Rattle.or_resv.specs.Slots.{is_reserved};
@@ -20,9 +20,10 @@ ghost use Rattle.or_bus.specs.Last.{access_of};
 
 use crate::access::{Access, AccessKind};
 use crate::region::region_of;
-use or_dev::{Ompic, Uart};
+use or_dev::Devices;
 use or_mem::{DCaches, Ram};
 use or_model::{Counts, Region};
+use or_parts::memory_map::Device;
 use or_resv::Reservations;
 use or_words::{Config, NoMemory, Width};
 use std::alloc::Global;
@@ -37,8 +38,7 @@ pub struct Bus {
     reservations: Reservations,
     counts: [Counts; 8],
     writes: u64,
-    uart: Uart,
-    ompic: Ompic,
+    devices: Devices,
     last: Option<Access>,
 }
 
@@ -48,9 +48,9 @@ impl Model for Bus {
 
     ghost Value = { BusState };
 
-    ghost view = { λ a. record { cores = a.cores; ram = a.ram.bytes; reads = a.ram.reads; caches = a.caches; slots = a.reservations; counts = a.counts; writes = a.writes; uart = a.uart.state; spare = a.uart.spare; ompic = a.ompic; last = a.last } };
+    ghost view = { λ a. record { cores = a.cores; ram = a.ram.bytes; reads = a.ram.reads; caches = a.caches; slots = a.reservations; counts = a.counts; writes = a.writes; devices = a.devices.state; spare = a.devices.spare; last = a.last } };
 
-    ghost invariant = { λ a. IsSound (record { cores = a.cores; ram = a.ram.bytes; reads = a.ram.reads; caches = a.caches; slots = a.reservations; counts = a.counts; writes = a.writes; uart = a.uart.state; spare = a.uart.spare; ompic = a.ompic; last = a.last }) };
+    ghost invariant = { λ a. IsSound (record { cores = a.cores; ram = a.ram.bytes; reads = a.ram.reads; caches = a.caches; slots = a.reservations; counts = a.counts; writes = a.writes; devices = a.devices.state; spare = a.devices.spare; last = a.last }) };
 }
 
 // The counts after a hit.
@@ -90,7 +90,7 @@ impl Bus {
     {
         let caches = DCaches::open(alloc, config.cores)?;
         let room = config.cores as usize * config.budget as usize;
-        let uart = Uart::open(alloc, input, room)?;
+        let devices = Devices::open(alloc, config.cores, input, room)?;
         Ok(Bus {
             cores: config.cores,
             ram,
@@ -98,8 +98,7 @@ impl Bus {
             reservations: Reservations::empty(),
             counts: [Counts { hits: 0, misses: 0 }; 8],
             writes: 0,
-            uart,
-            ompic: Ompic::new(config.cores),
+            devices,
             last: None,
         })
     }
@@ -122,7 +121,7 @@ impl Bus {
         ensures after { self.new ≡ record self.old { reads = self.new.reads } }
     {
         let caches = self.caches.copy(alloc)?;
-        let uart = self.uart.copy(alloc)?;
+        let devices = self.devices.copy(alloc)?;
         let ram = self.ram.copy(alloc)?;
         Ok(Bus {
             cores: self.cores,
@@ -131,8 +130,7 @@ impl Bus {
             reservations: self.reservations.copy(),
             counts: self.counts,
             writes: self.writes,
-            uart,
-            ompic: self.ompic,
+            devices,
             last: self.last,
         })
     }
@@ -170,87 +168,35 @@ impl Bus {
         region_of(self.ram.size(), self.cores, pa, width)
     }
 
-    fn take_from_uart(&mut self, reg: u32) -> u8
-        requires { reg < 8 }
-        ensures value { result ≡ uart_value self.old.uart reg }
-        ensures after { self.new ≡ record self.old { uart = uart_after_read self.old.uart reg } }
+    /// Reads the register at an offset in a device.
+    pub(crate) fn load_device(&mut self, device: Device, offset: u32) -> u32
+        requires { HasRegister self.old.cores device offset }
+        ensures value { result ≡ device_value self.old.devices device offset }
+        ensures after { self.new ≡ record self.old { devices = device_after_read self.old.devices device offset } }
+        ensures sound { IsSound self.new }
     {
-        self.uart.read(reg)
+        self.devices.load(device, offset)
     }
 
-    fn put_to_uart(&mut self, reg: u32, v: u8)
-        requires register { reg < 8 }
+    /// Writes a word to the register at an offset in a device.
+    pub(crate) fn store_device(&mut self, device: Device, offset: u32, v: u32)
+        requires register { HasRegister self.old.cores device offset }
         requires room { 0 < self.old.spare }
-        ensures after { self.new ≡ record self.old { uart = uart_written self.old.uart reg v; spare = self.new.spare } }
+        ensures after { self.new ≡ record self.old { devices = device_written self.old.devices device offset v; spare = self.new.spare } }
         ensures spare { self.old.spare ≤ self.new.spare + 1 }
+        ensures sound { IsSound self.new }
     {
-        self.uart.write(reg, v);
+        self.devices.store(device, offset, v);
     }
 
-    fn set_ompic(&mut self, offset: u32, v: u32)
-        requires aligned { offset % 4 ≡ 0 }
-        requires inside { offset < 8 * self.old.cores }
-        ensures after { self.new ≡ record self.old { ompic = ompic_written self.old.ompic offset v } }
-        ensures sound { IsSound self.old }
-    {
-        self.ompic.write(offset, v);
-    }
-
-    /// Reads a register of the UART.
-    pub(crate) fn read_uart(&mut self, reg: u32) -> u8
-        requires { reg < 8 }
-        ensures value { result ≡ uart_value self.old.uart reg }
-        ensures tracks { (world : World) → Represents self.old world → Represents self.new (record world { uart = uart_after_read world.uart reg }) }
-        ensures after { self.new ≡ record self.old { uart = self.new.uart } }
-    {
-        self.take_from_uart(reg)
-    }
-
-    /// Writes a register of the UART.
-    pub(crate) fn write_uart(&mut self, reg: u32, v: u8)
-        requires register { reg < 8 }
-        requires room { 0 < self.old.spare }
-        ensures tracks { (world : World) → Represents self.old world → Represents self.new (record world { uart = uart_written world.uart reg v }) }
-        ensures after { self.new ≡ record self.old { uart = self.new.uart; spare = self.new.spare } }
-        ensures spare { self.old.spare ≤ self.new.spare + 1 }
-    {
-        self.put_to_uart(reg, v);
-    }
-
-    /// Reads a word of the ompic.
-    pub(crate) fn read_ompic(&self, offset: u32) -> u32
-        requires aligned { offset % 4 ≡ 0 }
-        requires inside { offset < 8 * self.now.cores }
-        ensures { result ≡ ompic_value self.now.ompic offset }
-    {
-        self.ompic.read(offset)
-    }
-
-    /// Writes a word of the ompic.
-    pub(crate) fn write_ompic(&mut self, offset: u32, v: u32)
-        requires aligned { offset % 4 ≡ 0 }
-        requires inside { offset < 8 * self.old.cores }
-        ensures tracks { (world : World) → Represents self.old world → Represents self.new (record world { ompic = ompic_written world.ompic offset v }) }
-        ensures after { self.new ≡ record self.old { ompic = self.new.ompic } }
-    {
-        self.set_ompic(offset, v);
-    }
-
-    /// Whether the ompic has an interrupt for the core.
+    /// The core's interrupt lines, each at its bit of PICSR.
     #[inline]
-    pub(crate) fn has_core_interrupt(&self, core: u32) -> bool
+    pub fn lines(&self, core: u32) -> u32
         requires { core < self.now.cores }
-        ensures { result ≡ is_ompic_pending self.now.ompic core }
+        ensures value { result ≡ interrupt_lines self.now.devices core }
+        ensures told { (world : World) → Represents self.now world → result ≡ interrupt_lines world.devices core }
     {
-        self.ompic.pending(core)
-    }
-
-    /// Whether the UART's line is high.
-    #[inline]
-    pub(crate) fn has_uart_interrupt(&self) -> bool
-        ensures { result ≡ uart_line self.now.uart }
-    {
-        self.uart.line()
+        self.devices.lines(core)
     }
 
     /// The word at an address in the line that the core holds, which is that of RAM.
@@ -431,9 +377,9 @@ impl Bus {
 
     /// The bytes that were sent.
     pub(crate) fn console_here(&self) -> &[u8]
-        ensures { result.now ≡ self.now.uart.console }
+        ensures { result.now ≡ console_of self.now.devices }
     {
-        self.uart.console()
+        self.devices.console()
     }
 
     /// How often RAM was read, cut at the last value of 64 bits.
@@ -454,10 +400,10 @@ impl Bus {
     /// The bytes of RAM and of the console, alone.
     pub fn into_parts(self) -> (Vec<u8>, Vec<u8>)
         ensures ram { result.0.items ≡ self.ram }
-        ensures console { result.1.items ≡ self.uart.console }
+        ensures console { result.1.items ≡ console_of self.devices }
     {
-        let Bus { ram, uart, .. } = self;
-        (ram.into_bytes(), uart.into_console())
+        let Bus { ram, devices, .. } = self;
+        (ram.into_bytes(), devices.into_console())
     }
 }
 

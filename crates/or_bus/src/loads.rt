@@ -159,8 +159,8 @@ impl Bus {
     }
 
     /// A load at an address that is aligned for its width; the value is zero-extended. RAM answers any width, through
-    /// the core's data cache or past it; the UART answers bytes and the ompic words. Where nothing answers it is a bus
-    /// error, and nothing changes.
+    /// the core's data cache or past it; a device answers the width that its row of the memory map has. Where nothing
+    /// answers it is a bus error, and nothing changes.
     #[inline(always)]
     pub fn load(&mut self, core: u32, pa: u32, width: Width, cached: bool) -> Result<u32, BusError>
         requires core { core < self.old.cores }
@@ -175,8 +175,7 @@ impl Bus {
     {
         match self.region(pa, width) {
             Region::Ram => Ok(self.load_ram(core, pa, width, cached)),
-            Region::Uart(reg) => Ok(self.read_uart(reg) as u32),
-            Region::Ompic(offset) => Ok(self.read_ompic(offset)),
+            Region::Register(device, offset) => Ok(self.load_device(device, offset)),
             Region::Nothing => Err(BusError),
         }
     }

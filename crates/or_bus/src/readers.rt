@@ -1,11 +1,9 @@
 //! What a bus tells of itself.
 
-ghost use Rattle.std.specs.Prelude.{◌≡◌, ℕ, ◌+◌, ◌<◌, min, length, None, if◌then◌else◌};
-ghost use Rattle.or_parts.specs.Uart.{uart_line};
-ghost use Rattle.or_parts.specs.Ompic.{is_ompic_pending};
+ghost use Rattle.std.specs.Prelude.{◌≡◌, ◌<◌, min, length, None};
+ghost use Rattle.or_parts.specs.Devices.{console_of};
 ghost use Rattle.or_model.specs.World.{World};
 ghost use Rattle.or_model.specs.Caches.{hits, misses};
-ghost use Rattle.or_model.specs.Bus.{interrupt_lines};
 ghost use Rattle.or_mem.specs.Memory.{last_count};
 ghost use Rattle.or_bus.specs.State.{counts_of};
 ghost use Rattle.or_bus.specs.Represents.{Represents};
@@ -16,23 +14,6 @@ use crate::bus::Bus;
 use or_model::Counts;
 
 impl Bus {
-    /// The core's interrupt lines: bit 1 is the ompic's, and bit 2 the UART's.
-    #[inline]
-    pub fn lines(&self, core: u32) -> u32
-        requires { core < self.now.cores }
-        ensures { (world : World) → Represents self.now world → result ≡ interrupt_lines world core }
-    {
-        self.line_bits(core)
-    }
-
-    #[inline]
-    fn line_bits(&self, core: u32) -> u32
-        requires { core < self.now.cores }
-        ensures { result ≡ (if is_ompic_pending self.now.ompic core then 2 else 0) + (if uart_line self.now.uart then 4 else 0) }
-    {
-        bits_of(self.has_core_interrupt(core), self.has_uart_interrupt())
-    }
-
     /// How often the core's cached loads found their line held, and how often not, each cut at the last value of 64
     /// bits. A load that reserves counts as a load.
     pub fn counts(&self, core: u32) -> Counts
@@ -53,8 +34,8 @@ impl Bus {
 
     /// The bytes that were sent to the console.
     pub fn console(&self) -> &[u8]
-        ensures value { result.now ≡ self.now.uart.console }
-        ensures told { (world : World) → Represents self.now world → result.now ≡ world.uart.console }
+        ensures value { result.now ≡ console_of self.now.devices }
+        ensures told { (world : World) → Represents self.now world → result.now ≡ console_of world.devices }
     {
         self.console_here()
     }
@@ -90,11 +71,4 @@ impl Bus {
     {
         self.set_last(None);
     }
-}
-
-#[inline]
-fn bits_of(from_core: bool, from_uart: bool) -> u32
-    ensures { result ≡ (if from_core then 2 else 0) + (if from_uart then 4 else 0) }
-{
-    (if from_core { 2 } else { 0 }) + if from_uart { 4 } else { 0 }
 }

@@ -57,8 +57,8 @@ impl Bus {
 
     /// A store of the low bits of a word at an address that is aligned for its width. RAM answers any width: all cores'
     /// reservations of the word end, other cores lose the line, and the storing core's own line is updated where the
-    /// store is cached, and lost where it is not. The UART answers bytes, and may take one byte of the console's room;
-    /// the ompic answers words. Where nothing answers it is a bus error, and nothing changes.
+    /// store is cached, and lost where it is not. A device answers the width that its row of the memory map has, and
+    /// may take one byte of the console's room. Where nothing answers it is a bus error, and nothing changes.
     #[inline(always)]
     pub fn store(
         &mut self,
@@ -82,12 +82,8 @@ impl Bus {
                 self.store_ram(core, pa, width, v, cached, AccessKind::Store);
                 Ok(())
             }
-            Region::Uart(reg) => {
-                self.write_uart(reg, (v % 256) as u8);
-                Ok(())
-            }
-            Region::Ompic(offset) => {
-                self.write_ompic(offset, v);
+            Region::Register(device, offset) => {
+                self.store_device(device, offset, v);
                 Ok(())
             }
             Region::Nothing => Err(BusError),

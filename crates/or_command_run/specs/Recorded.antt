@@ -5,6 +5,7 @@ use Rattle.or_sched.specs.RecText.{rec_text2}
 use Rattle.or_model.specs.Turn.{Board, replay}
 use Rattle.or_replay.specs.Marks.{marks}
 use Rattle.or_replay.specs.Board.{all_stopped}
+use Rattle.or_parts.specs.Devices.{console_of}
 
 -- a schedule that leads from a start to a board on which every core has stopped, the recording of it behind this head, and
 -- the console of that board
@@ -14,4 +15,4 @@ pub record IsRecorded (first : Board) (head : Head) (recording console : List �
   pub replayed : replay first schedule ≡ Some last
   pub stopped : all_stopped last.cores ≡ true
   pub recorded : recording ≡ rec_text2 head schedule (marks first schedule)
-  pub shown : console ≡ last.world.uart.console
+  pub shown : console ≡ console_of last.world.devices

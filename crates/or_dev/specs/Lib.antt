@@ -1,3 +1,4 @@
 pub mod Serial
 pub mod Controller
 pub mod Padding
+pub mod Devices

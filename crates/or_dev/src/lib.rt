@@ -1,8 +1,11 @@
-//! The devices of the board: the serial port that is its console, and the controller of interrupts between cores.
+//! The devices of the board, as one part: the serial port that is its console, and the controller of interrupts between cores.
+//! `devices.rt` is the only place where code names a single device.
 #![tactic(auto)]
 
 mod controller;
+mod devices;
+mod mapped;
 mod serial;
 
-pub use controller::Ompic;
-pub use serial::Uart;
+pub use devices::Devices;
+pub use mapped::register_at;

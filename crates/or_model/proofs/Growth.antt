@@ -10,6 +10,9 @@ use Rattle.or_words.specs.declared.ExtendKind.{ExtendKind}
 use Rattle.or_words.specs.declared.ExtendKind.TheVariants.{Whole}
 use Rattle.or_parts.specs.declared.Cause.{Cause}
 use Rattle.or_parts.specs.declared.Right.TheVariants.{Load, Store}
+use Rattle.or_parts.specs.declared.memory_map.Device.{Device}
+use Rattle.or_parts.specs.declared.memory_map.Device.TheVariants.{Uart, Ompic}
+use Rattle.or_parts.specs.Devices.{Devices, console_of, device_after_read, device_written}
 use Rattle.or_parts.specs.Uart.{UartState, uart_after_read, uart_written, uart_sent, is_loopback, has_divisor, interrupts_enabled, identification, after_input}
 use Rattle.or_parts.specs.Bits.{has, plus, immediate}
 use Rattle.or_parts.specs.Memory.{value_at}
@@ -21,7 +24,7 @@ use Rattle.std.specs.Prelude.{◌==◌, ◌&&◌, not}
 use Rattle.or_model.specs.declared.Route.{Route}
 use Rattle.or_model.specs.declared.Route.TheVariants.{Refused, At}
 use Rattle.or_model.specs.declared.Region.{Region}
-use Rattle.or_model.specs.declared.Region.TheVariants.{Ram, Uart, Ompic, Nothing}
+use Rattle.or_model.specs.declared.Region.TheVariants.{Ram, Register, Nothing}
 use Rattle.or_model.specs.declared.Fetched.{Fetched}
 use Rattle.or_model.specs.Core.{Core}
 use Rattle.or_model.specs.World.{World, after_load, after_store, after_drop, marked, unmarked, stands}
@@ -33,14 +36,14 @@ use Rattle.or_model.specs.Turn.{turn_ended, turn, turn_begun}
 
 pub record Grows (old new : World) : Type 0 where
   pub writes : length new.writes ≤ length old.writes + 1
-  pub console : length new.uart.console ≤ length old.uart.console + 1
+  pub console : length (console_of new.devices) ≤ length (console_of old.devices) + 1
 
 same : (world : World) → Grows world world
 same world = record { writes = omega arith; console = omega arith }
 
--- a world with another UART whose console has grown by at most one byte
-with_uart : (world : World) (uart : UartState) → length uart.console ≤ length world.uart.console + 1 → Grows world (record world { uart = uart })
-with_uart world uart few = record { writes = omega arith; console = few }
+-- a world with other devices whose console has grown by at most one byte
+with_devices : (world : World) (devices : Devices) → length (console_of devices) ≤ length (console_of world.devices) + 1 → Grows world (record world { devices = devices })
+with_devices world devices few = record { writes = omega arith; console = few }
 
 read_by : (uart : UartState) (first second : Bool) (input : List ℕ) → length (cond first (record uart { input = input }) (cond second (record uart { transmitter = false }) uart)).console ≤ length uart.console + 1
 read_by uart true second input = omega arith
@@ -79,6 +82,16 @@ uart_write uart reg v =
     (either (reg == 4) most (record uart { mcr = v % 32 }) seventh kept
     (either (reg == 7) most (record uart { scr = v }) uart kept kept)))))
 
+device_read : (devices : Devices) (device : Device) (offset : ℕ) → length (console_of (device_after_read devices device offset)) ≤ length (console_of devices) + 1
+unfolding device_after_read
+device_read devices Uart offset = uart_read devices.uart offset
+device_read devices Ompic offset = omega arith
+
+device_write : (devices : Devices) (device : Device) (offset v : ℕ) → length (console_of (device_written devices device offset v)) ≤ length (console_of devices) + 1
+unfolding device_written
+device_write devices Uart offset v = uart_write devices.uart offset (v % 256)
+device_write devices Ompic offset v = omega arith
+
 stored_once : (world : World) (c pa : ℕ) (width : Width) (v : ℕ) (cached : Bool) → Grows world (after_store world c pa width v cached)
 unfolding after_store
 stored_once world c pa width v cached = record { writes = omega (arith, length-append world.writes ((c, pa - pa % 4) ∷ [])); console = omega arith }
@@ -98,8 +111,7 @@ StoreGrows world (Some after) = Grows world after
 
 load_by : (world : World) (c pa : ℕ) (width : Width) (cached : Bool) (at : Region) → AnswerGrows world (load_from world c pa width cached at)
 load_by world c pa width cached Ram = loaded_once world c pa cached
-load_by world c pa width cached (Uart reg) = with_uart world (uart_after_read world.uart reg) (uart_read world.uart reg)
-load_by world c pa width cached (Ompic offset) = same world
+load_by world c pa width cached (Register device offset) = with_devices world (device_after_read world.devices device offset) (device_read world.devices device offset)
 load_by world c pa width cached Nothing = tt
 
 load_grows : (world : World) (c pa : ℕ) (width : Width) (cached : Bool) → AnswerGrows world (load world c pa width cached)
@@ -108,8 +120,7 @@ load_grows world c pa width cached = load_by world c pa width cached (region wor
 
 store_by : (world : World) (c pa : ℕ) (width : Width) (v : ℕ) (cached : Bool) (at : Region) → StoreGrows world (store_to world c pa width v cached at)
 store_by world c pa width v cached Ram = stored_once world c pa width v cached
-store_by world c pa width v cached (Uart reg) = with_uart world (uart_written world.uart reg (v % 256)) (uart_write world.uart reg (v % 256))
-store_by world c pa width v cached (Ompic offset) = record { writes = omega arith; console = omega arith }
+store_by world c pa width v cached (Register device offset) = with_devices world (device_written world.devices device offset v) (device_write world.devices device offset v)
 store_by world c pa width v cached Nothing = tt
 
 store_grows : (world : World) (c pa : ℕ) (width : Width) (v : ℕ) (cached : Bool) → StoreGrows world (store world c pa width v cached)

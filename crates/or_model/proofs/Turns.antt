@@ -1,14 +1,12 @@
 -- A turn of a core that runs adds at least one step and at most 256, and stays within the budget.
-use Rattle.std.proofs.Common.{◌≡◌, ℕ, zero, suc, ◌+◌, ◌<◌, ◌≤◌, Bool, true, false, cond, refl, ap, arith, sym, ◌∙◌}
+use Rattle.std.proofs.Common.{◌≡◌, ℕ, zero, suc, ◌+◌, ◌<◌, ◌≤◌, Bool, true, false, cond, refl, arith}
 use Rattle.std.specs.Prelude.{Option, Some, None, is_none, ◌&&◌}
 use Rattle.or_model.specs.declared.Stop.{Stop}
 use Rattle.or_model.specs.Core.{Core}
 use Rattle.or_model.specs.World.{World}
-use Rattle.or_model.specs.Bus.{interrupt_lines}
-use Rattle.or_model.specs.DataAccess.{State}
-use Rattle.or_model.specs.Step.{step, is_private, private_step, empty_world}
-use Rattle.or_model.specs.Turn.{Begun, steps_alone, begun_within, turn_begun, sampled, with_lines_sampled, turn_ended, turn}
-use Rattle.or_model.specs.Counts.{SameSettings, SameCounts, IsWithinBudget, AddsStep, AddsTurn}
+use Rattle.or_model.specs.Step.{is_private, private_step, empty_world}
+use Rattle.or_model.specs.Turn.{Begun, steps_alone, begun_within, turn_begun, sampled, turn_ended, turn}
+use Rattle.or_model.specs.Counts.{SameSettings, IsWithinBudget, AddsStep, AddsTurn}
 use Rattle.or_model.proofs.Executes.{SameSettings-trans}
 use Rattle.or_model.proofs.Steps.{step-adds}
 

@@ -8,12 +8,14 @@ use Rattle.or_parts.specs.Timer.{ticked}
 use Rattle.or_parts.specs.Translation.{translation}
 use Rattle.or_parts.specs.Special.{spr_route, own_written}
 use Rattle.or_parts.specs.Uart.{reset_uart, uart_line}
+use Rattle.or_parts.specs.MemoryMap.{register_at}
+use Rattle.or_parts.specs.Devices.{reset_devices, interrupt_lines}
 use Rattle.or_parts.specs.Lines.{held_word, line_filled}
 use Rattle.or_model.specs.declared.Stop.TheVariants.{Budget}
 use Rattle.or_model.specs.Turn.{begun_within, turn_begun, turn_ended, steps_alone, turn}
 use Rattle.or_model.specs.Core.{Core, register, reset_core, next_instruction, branched, exception_entry, exception_return}
 use Rattle.or_model.specs.World.{World, new_world, after_load, after_store, marked, unmarked, stands}
-use Rattle.or_model.specs.Bus.{fetch, region_of, load, store, load_linked, store_conditional, interrupt_lines}
+use Rattle.or_model.specs.Bus.{fetch, region_of, load, store, load_linked, store_conditional}
 use Rattle.or_model.specs.Routes.{fetch_route, data_route}
 use Rattle.or_model.specs.DataAccess.{State, loaded_linked, stored_value, stored_conditional}
 use Rattle.or_model.specs.SpecialAccess.{special_written}
@@ -75,7 +77,7 @@ store_in_slot : Core
 store_in_slot = record reset { pc = 0x184; branch = Some 0x200; sr = 0x8021; registers = slice_set reset.registers 2 0x4000 }
 
 slot_misses : place (after_word store_in_slot 0xD4022000) ≡ (0x900, 0x180, 0x4000, 0x8021, 0xA001)
-unfolding store_in_slot place translation results reset with_operands after_word decode_of a_of b_of d_of i_of k_of n_of split_i_of split_k_of reset_core step_by_word step_off_bus step_on_bus is_misplaced executed put_arithmetic jumped branched_on executed_on_bus put_sum put_quotient put_with_flags put_with_overflow put next_instruction branched destination retired ticked with_step_counted exception_entry exception_return spr_route special_written new_world fetch load region_of load_linked store_conditional after_load after_store marked unmarked stands data_route loaded_linked stored_conditional stored_value store
+unfolding store_in_slot place translation results reset with_operands after_word decode_of a_of b_of d_of i_of k_of n_of split_i_of split_k_of reset_core step_by_word step_off_bus step_on_bus is_misplaced executed put_arithmetic jumped branched_on executed_on_bus put_sum put_quotient put_with_flags put_with_overflow put next_instruction branched destination retired ticked with_step_counted exception_entry exception_return spr_route special_written new_world fetch load region_of register_at reset_devices load_linked store_conditional after_load after_store marked unmarked stands data_route loaded_linked stored_conditional stored_value store
 slot_misses = refl
 
 -- the tick timer counts the l.mtspr that starts it, and two instructions more; then its interrupt is taken
@@ -109,7 +111,7 @@ succeeds : State → Bool
 succeeds state = flag (step_by_word state.core state.world 0xCC032000).core
 
 conditional_store : (succeeds linked ≡ true) × (succeeds returned ≡ false) × (succeeds (record { core = linked.core; world = after_store linked.world 1 0 Word 0 false }) ≡ false)
-unfolding pair_of_cores linked called returned succeeds results reset with_operands after_word decode_of a_of b_of d_of i_of k_of n_of split_i_of split_k_of reset_core step_by_word step_off_bus step_on_bus is_misplaced executed put_arithmetic jumped branched_on executed_on_bus put_sum put_quotient put_with_flags put_with_overflow put next_instruction branched destination retired ticked with_step_counted exception_entry exception_return spr_route special_written new_world fetch load region_of load_linked store_conditional after_load after_store marked unmarked stands data_route loaded_linked stored_conditional stored_value store
+unfolding pair_of_cores linked called returned succeeds results reset with_operands after_word decode_of a_of b_of d_of i_of k_of n_of split_i_of split_k_of reset_core step_by_word step_off_bus step_on_bus is_misplaced executed put_arithmetic jumped branched_on executed_on_bus put_sum put_quotient put_with_flags put_with_overflow put next_instruction branched destination retired ticked with_step_counted exception_entry exception_return spr_route special_written new_world fetch load region_of register_at reset_devices load_linked store_conditional after_load after_store marked unmarked stands data_route loaded_linked stored_conditional stored_value store
 conditional_store = (refl, refl, refl)
 
 -- a jump in a delay slot, in a board of zeros: l.j 0 at 00000100 and in its slot, and then at the handler
@@ -124,11 +126,11 @@ few_steps : State
 few_steps = record { core = reset_core (record { cores = 1; budget = 4; ram = 1; latched = false }) 0; world = zeros }
 
 jump_in_slot : place (steps_from 2 few_steps).core ≡ (0x700, 0x100, 0, 0x8001, 0xA001)
-unfolding zeros few_steps steps_from step due_interrupt step_unheld fetch_route place results reset with_operands after_word decode_of a_of b_of d_of i_of k_of n_of split_i_of split_k_of reset_core step_by_word step_off_bus step_on_bus is_misplaced executed put_arithmetic jumped branched_on executed_on_bus put_sum put_quotient put_with_flags put_with_overflow put next_instruction branched destination retired ticked with_step_counted exception_entry exception_return spr_route special_written new_world fetch load region_of load_linked store_conditional after_load after_store marked unmarked stands data_route loaded_linked stored_conditional stored_value store
+unfolding zeros few_steps steps_from step due_interrupt step_unheld fetch_route place results reset with_operands after_word decode_of a_of b_of d_of i_of k_of n_of split_i_of split_k_of reset_core step_by_word step_off_bus step_on_bus is_misplaced executed put_arithmetic jumped branched_on executed_on_bus put_sum put_quotient put_with_flags put_with_overflow put next_instruction branched destination retired ticked with_step_counted exception_entry exception_return spr_route special_written new_world fetch load region_of register_at reset_devices load_linked store_conditional after_load after_store marked unmarked stands data_route loaded_linked stored_conditional stored_value store
 jump_in_slot = refl
 
 jump_in_handler_slot : (place (steps_from 4 few_steps).core ≡ (0x700, 0x700, 0, 0xA001, 0xA001)) × ((steps_from 4 few_steps).core.stop ≡ Some Budget)
-unfolding zeros few_steps steps_from step due_interrupt step_unheld fetch_route place results reset with_operands after_word decode_of a_of b_of d_of i_of k_of n_of split_i_of split_k_of reset_core step_by_word step_off_bus step_on_bus is_misplaced executed put_arithmetic jumped branched_on executed_on_bus put_sum put_quotient put_with_flags put_with_overflow put next_instruction branched destination retired ticked with_step_counted exception_entry exception_return spr_route special_written new_world fetch load region_of load_linked store_conditional after_load after_store marked unmarked stands data_route loaded_linked stored_conditional stored_value store
+unfolding zeros few_steps steps_from step due_interrupt step_unheld fetch_route place results reset with_operands after_word decode_of a_of b_of d_of i_of k_of n_of split_i_of split_k_of reset_core step_by_word step_off_bus step_on_bus is_misplaced executed put_arithmetic jumped branched_on executed_on_bus put_sum put_quotient put_with_flags put_with_overflow put next_instruction branched destination retired ticked with_step_counted exception_entry exception_return spr_route special_written new_world fetch load region_of register_at reset_devices load_linked store_conditional after_load after_store marked unmarked stands data_route loaded_linked stored_conditional stored_value store
 jump_in_handler_slot = (refl, refl)
 
 -- a loop of l.j and l.nop in a held line: 256 private steps in one turn, and no step on the bus
@@ -139,7 +141,7 @@ looping : Core
 looping = record reset { sr = 0x8011; lines = slice_set reset.lines 8 (Some (record { address = 0x100; bytes = word_bytes 0x00000000 ++ word_bytes 0x15000000 ++ replicate 24 0 })) }
 
 private_loop : ((turn_begun looping).core.steps ≡ 256) × ((turn_begun looping).core.pc ≡ 0x100) × ((turn_begun looping).follows ≡ false)
-unfolding word_bytes looping turn_begun begun_within steps_alone is_private private_step held_word after_nop step due_interrupt step_unheld fetch_route place results reset with_operands after_word decode_of a_of b_of d_of i_of k_of n_of split_i_of split_k_of reset_core step_by_word step_off_bus step_on_bus is_misplaced executed put_arithmetic jumped branched_on executed_on_bus put_sum put_quotient put_with_flags put_with_overflow put next_instruction branched destination retired ticked with_step_counted exception_entry exception_return spr_route special_written new_world fetch load region_of load_linked store_conditional after_load after_store marked unmarked stands data_route loaded_linked stored_conditional stored_value store
+unfolding word_bytes looping turn_begun begun_within steps_alone is_private private_step held_word after_nop step due_interrupt step_unheld fetch_route place results reset with_operands after_word decode_of a_of b_of d_of i_of k_of n_of split_i_of split_k_of reset_core step_by_word step_off_bus step_on_bus is_misplaced executed put_arithmetic jumped branched_on executed_on_bus put_sum put_quotient put_with_flags put_with_overflow put next_instruction branched destination retired ticked with_step_counted exception_entry exception_return spr_route special_written new_world fetch load region_of register_at reset_devices load_linked store_conditional after_load after_store marked unmarked stands data_route loaded_linked stored_conditional stored_value store
 private_loop = (refl, refl, refl)
 
 -- a core that turns its instruction cache on by l.mtspr and then loops, with 300 steps to make: the fifth turn makes 256 of them
@@ -154,5 +156,5 @@ some_steps : State
 some_steps = record { core = reset_core (record { cores = 1; budget = 300; ram = 1; latched = false }) 0; world = new_world loop_program 1 [] }
 
 budget_ends : ((turns_from 4 some_steps).core.stop ≡ None) × ((turns_from 5 some_steps).core.stop ≡ Some Budget) × ((turns_from 5 some_steps).core.steps ≡ 300) × ((turns_from 5 some_steps).core.pc ≡ 0x108) × ((turns_from 5 some_steps).core.branch ≡ None) × ((turns_from 5 some_steps).core.sr ≡ 0x8011)
-unfolding word_bytes loop_program turns_from some_steps turn turn_begun turn_ended begun_within steps_alone is_private private_step held_word line_filled after_nop own_written interrupt_lines uart_line reset_uart step due_interrupt step_unheld fetch_route fetch place results reset with_operands after_word decode_of a_of b_of d_of i_of k_of n_of split_i_of split_k_of reset_core step_by_word step_off_bus step_on_bus is_misplaced executed put_arithmetic jumped branched_on executed_on_bus put_sum put_quotient put_with_flags put_with_overflow put next_instruction branched destination retired ticked with_step_counted exception_entry exception_return spr_route special_written new_world load region_of load_linked store_conditional after_load after_store marked unmarked stands data_route loaded_linked stored_conditional stored_value store
+unfolding word_bytes loop_program turns_from some_steps turn turn_begun turn_ended begun_within steps_alone is_private private_step held_word line_filled after_nop own_written interrupt_lines uart_line reset_uart step due_interrupt step_unheld fetch_route fetch place results reset with_operands after_word decode_of a_of b_of d_of i_of k_of n_of split_i_of split_k_of reset_core step_by_word step_off_bus step_on_bus is_misplaced executed put_arithmetic jumped branched_on executed_on_bus put_sum put_quotient put_with_flags put_with_overflow put next_instruction branched destination retired ticked with_step_counted exception_entry exception_return spr_route special_written new_world load region_of register_at reset_devices load_linked store_conditional after_load after_store marked unmarked stands data_route loaded_linked stored_conditional stored_value store
 budget_ends = (refl, refl, refl, refl, refl, refl)

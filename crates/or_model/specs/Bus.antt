@@ -1,14 +1,15 @@
 -- What the board answers to an access, and the world after it. Where nothing answers, the access is a bus error.
-use Rattle.std.specs.Prelude.{ℕ, ◌+◌, ◌-◌, ◌*◌, ◌%◌, Bool, true, false, ◌&&◌, nat_le, nat_lt, if◌then◌else◌, Option, Some, None, length}
+use Rattle.std.specs.Prelude.{ℕ, Bool, true, false, ◌&&◌, nat_lt, if◌then◌else◌, Option, Some, None, length}
 use Rattle.or_words.specs.declared.Width.{Width}
-use Rattle.or_words.specs.declared.Width.TheVariants.{Byte, Half, Word}
+use Rattle.or_words.specs.declared.Width.TheVariants.{Word}
 use Rattle.or_parts.specs.Memory.{value_at}
 use Rattle.or_parts.specs.Lines.{line_bytes}
-use Rattle.or_parts.specs.Uart.{uart_value, uart_after_read, uart_written, uart_line}
-use Rattle.or_parts.specs.Ompic.{ompic_value, ompic_written, is_ompic_pending}
+use Rattle.or_parts.specs.declared.memory_map.Device.{Device}
+use Rattle.or_parts.specs.MemoryMap.{register_at}
+use Rattle.or_parts.specs.Devices.{device_value, device_after_read, device_written, served_cores}
 use Rattle.or_model.specs.declared.Fetched.{Fetched}
 use Rattle.or_model.specs.declared.Region.{Region}
-use Rattle.or_model.specs.declared.Region.TheVariants.{Ram, Uart, Ompic, Nothing}
+use Rattle.or_model.specs.declared.Region.TheVariants.{Ram, Register, Nothing}
 use Rattle.or_model.specs.World.{World, after_load, after_store, marked, unmarked, stands}
 
 -- what the bus answers, and the world after it
@@ -16,22 +17,17 @@ pub record Answer (A : Type 0) : Type 0 where
   pub value : A
   pub after : World
 
--- an address is one of so many from a first one on
-abbrev pub is_in : ℕ → ℕ → ℕ → Bool
-is_in pa first count = nat_le first pa && nat_lt pa (first + count)
-
--- the UART answers bytes, and the ompic words
-abbrev pub device_of : ℕ → ℕ → Width → Region
-device_of cores pa Byte = if is_in pa 0x90000000 8 then Uart (pa - 0x90000000) else Nothing
-device_of cores pa Half = Nothing
-device_of cores pa Word = if is_in pa 0x98000000 (8 * cores) then Ompic (pa - 0x98000000) else Nothing
+-- an offset in a device answers, or nothing
+abbrev pub region_by : Option (Device × ℕ) → Region
+region_by None = Nothing
+region_by (Some (device, offset)) = Register device offset
 
 -- what answers an access of this width on a board with so many bytes of RAM and so many cores
 unfoldable pub region_of : ℕ → ℕ → ℕ → Width → Region
-region_of size cores pa width = if nat_lt pa size then Ram else device_of cores pa width
+region_of size cores pa width = if nat_lt pa size then Ram else region_by (register_at cores pa width)
 
 abbrev pub region : World → ℕ → Width → Region
-region world pa width = region_of (length world.ram) (length world.ompic) pa width
+region world pa width = region_of (length world.ram) (served_cores world.devices) pa width
 
 -- whether an address lies in RAM
 abbrev pub in_ram : World → ℕ → Bool
@@ -46,8 +42,7 @@ fetch world pa cached =
 
 abbrev pub load_from : World → ℕ → ℕ → Width → Bool → Region → Option (Answer ℕ)
 load_from world c pa width cached Ram = Some (record { value = value_at world.ram pa width; after = after_load world c pa cached })
-load_from world c pa width cached (Uart reg) = Some (record { value = uart_value world.uart reg; after = record world { uart = uart_after_read world.uart reg } })
-load_from world c pa width cached (Ompic offset) = Some (record { value = ompic_value world.ompic offset; after = world })
+load_from world c pa width cached (Register device offset) = Some (record { value = device_value world.devices device offset; after = record world { devices = device_after_read world.devices device offset } })
 load_from world c pa width cached Nothing = None
 
 -- core c loads; the value is not extended
@@ -56,8 +51,7 @@ load world c pa width cached = load_from world c pa width cached (region world p
 
 abbrev pub store_to : World → ℕ → ℕ → Width → ℕ → Bool → Region → Option World
 store_to world c pa width v cached Ram = Some (after_store world c pa width v cached)
-store_to world c pa width v cached (Uart reg) = Some (record world { uart = uart_written world.uart reg (v % 256) })
-store_to world c pa width v cached (Ompic offset) = Some (record world { ompic = ompic_written world.ompic offset v })
+store_to world c pa width v cached (Register device offset) = Some (record world { devices = device_written world.devices device offset v })
 store_to world c pa width v cached Nothing = None
 
 -- core c stores the low bits of a word
@@ -81,7 +75,3 @@ store_conditional world c pa v cached linked =
     (let succeeds = linked && stands world c pa in
     Some (record { value = succeeds; after = after_conditional world c pa v cached succeeds }))
     else None
-
--- the interrupt lines of core c: 1 is the ompic's and 2 the UART's
-unfoldable pub interrupt_lines : World → ℕ → ℕ
-interrupt_lines world c = (if is_ompic_pending world.ompic c then 2 else 0) + (if uart_line world.uart then 4 else 0)

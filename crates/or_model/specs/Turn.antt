@@ -5,7 +5,7 @@ use Rattle.or_words.specs.declared.limits.TheConstants.{MOST_PRIVATE_STEPS}
 use Rattle.or_parts.specs.Interrupts.{status_sampled}
 use Rattle.or_model.specs.Core.{Core, reset_core}
 use Rattle.or_model.specs.World.{World}
-use Rattle.or_model.specs.Bus.{interrupt_lines}
+use Rattle.or_parts.specs.Devices.{interrupt_lines}
 use Rattle.or_model.specs.DataAccess.{State}
 use Rattle.or_model.specs.Step.{step, is_private, private_step}
 
@@ -32,7 +32,7 @@ abbrev pub sampled : Core → ℕ → Core
 sampled core lines = record core { picsr = status_sampled core.latched core.picsr lines }
 
 abbrev pub with_lines_sampled : State → State
-with_lines_sampled state = record { core = sampled state.core (interrupt_lines state.world state.core.number); world = state.world }
+with_lines_sampled state = record { core = sampled state.core (interrupt_lines state.world.devices state.core.number); world = state.world }
 
 -- the second half of a turn: the step on the bus, if one follows, and the sampling
 unfoldable pub turn_ended : Core → World → Bool → State

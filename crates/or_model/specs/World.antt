@@ -4,7 +4,7 @@ use Rattle.or_words.specs.declared.Width.{Width}
 use Rattle.or_parts.specs.Memory.{stored, word_address}
 use Rattle.or_parts.specs.Lines.{line_of}
 use Rattle.or_parts.specs.Reservation.{Mark, stands_by}
-use Rattle.or_parts.specs.Uart.{UartState, reset_uart}
+use Rattle.or_parts.specs.Devices.{Devices, reset_devices, served_cores}
 
 pub data Kind : Type 0 where
   Loads : Kind
@@ -26,9 +26,7 @@ pub record World : Type 0 where
   pub accesses : List Access
   -- what each core reserved last, if it has not been used up
   pub marks : List (Option Mark)
-  pub uart : UartState
-  -- a status for each core
-  pub ompic : List ℕ
+  pub devices : Devices
 
 -- a world in which nothing has happened
 unfoldable pub new_world : List ℕ → ℕ → List ℕ → World
@@ -37,8 +35,7 @@ new_world ram cores input = record {
   writes = [];
   accesses = [];
   marks = replicate cores None;
-  uart = reset_uart input;
-  ompic = replicate cores 0;
+  devices = reset_devices cores input;
 }
 
 -- what a load from RAM leaves behind
@@ -69,8 +66,8 @@ unmarked world c = record world { marks = slice_set world.marks c None }
 unfoldable pub stands : World → ℕ → ℕ → Bool
 stands world c word = stands_by world.writes word (slice_index_or world.marks c None)
 
--- there is a mark and a status for each core, and no mark is at a place that the writes have not reached
+-- there is a mark for each core, the devices serve each core, and no mark is at a place that the writes have not reached
 pub record IsValid (world : World) (cores : ℕ) : Type 0 where
   pub marks : length world.marks ≡ cores
   pub reached : (c word k : ℕ) → slice_index_or world.marks c None ≡ Some (word, k) → k ≤ length world.writes
-  pub ompic : length world.ompic ≡ cores
+  pub devices : served_cores world.devices ≡ cores

@@ -3,6 +3,7 @@
 #![tactic(auto)]
 
 use or_parts::Cause;
+use or_parts::memory_map::Device;
 
 /// Why a core runs no longer.
 #[derive(Clone, Copy, Debug, PartialEq, Eq)]
@@ -26,10 +27,8 @@ pub enum Route {
 #[derive(Clone, Copy, Debug, PartialEq, Eq)]
 pub enum Region {
     Ram,
-    /// A register of the UART.
-    Uart(u32),
-    /// An offset in the ompic.
-    Ompic(u32),
+    /// An offset in a device.
+    Register(Device, u32),
     Nothing,
 }
 

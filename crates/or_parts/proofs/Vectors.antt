@@ -1,9 +1,13 @@
 -- Worked examples: the definitions give these values by computation.
-use Rattle.std.specs.Prelude.{◌≡◌, ℕ, true, false, List, [], ◌∷◌, refl, Some, Ok, Err}
+use Rattle.std.specs.Prelude.{◌≡◌, ℕ, true, false, List, [], ◌∷◌, refl, Some, None, Ok, Err}
 use Rattle.or_parts.specs.Timer.{ticked, mode_written, TickTimer}
 use Rattle.or_parts.specs.Interrupts.{status_sampled, status_written}
 use Rattle.or_parts.specs.Uart.{UartState, reset_uart, uart_value, uart_after_read, uart_written, uart_line}
 use Rattle.or_parts.specs.Ompic.{ompic_value, ompic_written, is_ompic_pending}
+use Rattle.or_words.specs.declared.Width.TheVariants.{Byte, Half, Word}
+use Rattle.or_parts.specs.declared.memory_map.Device.TheVariants.{Uart, Ompic}
+use Rattle.or_parts.specs.MemoryMap.{register_at}
+use Rattle.or_parts.specs.Devices.{Devices, reset_devices, interrupt_lines}
 use Rattle.or_parts.specs.Exceptions.{entry_status, saved_pc}
 use Rattle.or_parts.specs.declared.Cause.TheVariants.{Illegal, Syscall}
 use Rattle.or_parts.specs.Translation.{translation, no_pairs, match_written, translate_written}
@@ -64,6 +68,20 @@ sent = ompic_written (0 ∷ 0 ∷ []) 0 0x40010007
 pub interrupt_is_sent : (ompic_value sent 12 ≡ 0x40000007) × (is_ompic_pending sent 1 ≡ true) × (ompic_value (ompic_written sent 8 0x80000000) 12 ≡ 0) × (ompic_written (0 ∷ 0 ∷ []) 0 0x40070000 ≡ 0 ∷ 0 ∷ [])
 unfolding sent ompic_written ompic_value
 interrupt_is_sent = (refl, refl, refl, refl)
+
+-- the UART answers bytes at 90000000 to 90000007, and the ompic words at 98000000, 8 bytes for each core
+pub registers_are_found : (register_at 2 0x90000000 Byte ≡ Some (Uart, 0)) × (register_at 2 0x90000007 Byte ≡ Some (Uart, 7)) × (register_at 2 0x90000008 Byte ≡ None) × (register_at 2 0x90000004 Word ≡ None)
+    × (register_at 2 0x98000000 Word ≡ Some (Ompic, 0)) × (register_at 2 0x9800000C Word ≡ Some (Ompic, 12)) × (register_at 1 0x98000008 Word ≡ None) × (register_at 2 0x98000000 Half ≡ None) × (register_at 8 0x8FFFFFFF Byte ≡ None)
+unfolding register_at
+registers_are_found = (refl, refl, refl, refl, refl, refl, refl, refl, refl)
+
+-- the ompic raises line 1 at core 1 alone, and the UART line 2 at each core
+pub raised : Devices
+raised = record { uart = record (reset_uart (0x41 ∷ [])) { ier = 1 }; ompic = sent }
+
+pub lines_are_raised : (interrupt_lines (reset_devices 2 []) 0 ≡ 0) × (interrupt_lines raised 0 ≡ 4) × (interrupt_lines raised 1 ≡ 6)
+unfolding raised sent interrupt_lines reset_devices reset_uart uart_line ompic_written
+lines_are_raised = (refl, refl, refl)
 
 -- an illegal word in the slot of a jump at 00000100, and a system call in such a slot
 pub slot_is_told : (saved_pc Illegal 0x104 (Some 0x100) ≡ 0x100) × (entry_status 0x8001 (Some 0x100) ≡ 0xA001) × (saved_pc Syscall 0x104 (Some 0x200) ≡ 0x200)

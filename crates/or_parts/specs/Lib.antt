@@ -9,3 +9,5 @@ pub mod Interrupts
 pub mod Uart
 pub mod Ompic
 pub mod Reservation
+pub mod MemoryMap
+pub mod Devices

@@ -2,6 +2,7 @@
 //! The definitions stand in `specs/`; the types here are those that definitions and code share.
 #![tactic(auto)]
 
+pub mod memory_map;
 pub mod registers;
 pub mod status;
 

@@ -8,6 +8,7 @@ use Rattle.or_command_image.specs.Loaded.{RecordedBytes}
 use Rattle.or_replay.specs.Start.{start}
 use Rattle.or_replay.specs.Report.{report_text}
 use Rattle.or_recorded.specs.Replay.{bytes_in, IsReplayed, ReplayWrites}
+use Rattle.or_parts.specs.Devices.{console_of}
 
 one_end : (bytes : RecordedBytes) (report console other_report other : List ℕ) → IsReplayed bytes report console → IsReplayed bytes other_report other
     → (report ≡ other_report) × (console ≡ other)
@@ -17,7 +18,7 @@ one_end bytes report console other_report other is also =
     sym is.reached ∙ (λ i. replay (start (same.0 i).config bytes.image bytes.input) (same.1 i)) ∙ also.reached in
     let last : is.last ≡ also.last = cc in (
       is.reported ∙ (λ i. report_text (last i) (length (same.1 i))) ∙ sym also.reported,
-      is.shown ∙ ap (λ (board : Board). board.world.uart.console) last ∙ sym also.shown,
+      is.shown ∙ ap (λ (board : Board). console_of board.world.devices) last ∙ sym also.shown,
     )
 
 pub one_replay : (names : Recorded) (report : List ℕ) (files : List (List ℕ)) (outs others : List File) (console other : List ℕ) → ReplayWrites names report files outs console

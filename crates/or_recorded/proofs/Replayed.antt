@@ -18,11 +18,12 @@ use Rattle.or_recorded.specs.declared.checked.Checked.{Checked}
 use Rattle.or_recorded.specs.declared.checked.RunFault.{RunFault}
 use Rattle.or_recorded.specs.Checked.{IsFirstFault, IsRunChecked}
 use Rattle.or_recorded.specs.Replay.{replay_loads, bytes_in, fault_check, IsReplayed, ReplayWrites, RecordedVerdict}
+use Rattle.or_parts.specs.Devices.{console_of}
 
 -- the report of a recorded run at its end
 pub report_is : (bytes : RecordedBytes) (run : Checked) (report console : List ℕ) (cores : List Core) (bus : BusState) (turns : ℕ)
     → cores ≡ run.board.cores → bus ≡ run.board.bus → turns ≡ length run.recording.turns.items
-    → ((board : Board) → cores ≡ board.cores → Represents bus board.world → (console ≡ board.world.uart.console) × (report ≡ [] ++ report_text board turns))
+    → ((board : Board) → cores ≡ board.cores → Represents bus board.world → (console ≡ console_of board.world.devices) × (report ≡ [] ++ report_text board turns))
     → IsRunChecked bytes.image bytes.input bytes.recording run → IsReplayed bytes report console
 report_is bytes run report console cores bus turns same_cores same_bus count reported checked =
     let last : Board = checked.ended.last in

@@ -23,6 +23,7 @@ use Rattle.or_replay.specs.declared.follow.TurnFault.TheVariants.{NoCore, Stoppe
 use Rattle.or_recorded.specs.declared.checked.RunFault.{RunFault}
 use Rattle.or_recorded.specs.declared.checked.RunFault.TheVariants.{Text, NoMemoryForText, Image, Input, Elf, Turns, NoMemory}
 use Rattle.or_recorded.specs.Checked.{IsFirstFault, IsChecked, RunsShort}
+use Rattle.or_parts.specs.Devices.{console_of}
 
 abbrev pub replay_loads : Recorded → List Load
 replay_loads names = recorded_loads names.image names.input names.schedule
@@ -97,7 +98,7 @@ pub record IsReplayed (bytes : RecordedBytes) (report console : List ℕ) : Type
   pub last : Board
   pub reached : replay (start head.config bytes.image bytes.input) turns ≡ Some last
   pub reported : report ≡ report_text last (length turns)
-  pub shown : console ≡ last.world.uart.console
+  pub shown : console ≡ console_of last.world.devices
 
 -- the file and the console that a replay of these files writes
 pub record ReplayWrites (names : Recorded) (report : List ℕ) (files : List (List ℕ)) (outs : List File) (console : List ℕ) : Type 0 where

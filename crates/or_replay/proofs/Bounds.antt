@@ -11,11 +11,12 @@ use Rattle.or_model.specs.Turn.{Board, board_turned, board_turned_by, running, a
 use Rattle.or_model.proofs.Growth.{turn_grows}
 use Rattle.or_replay.specs.Marks.{mark_after, block_marks}
 use Rattle.or_replay.proofs.Replaying.{length-block_marks}
+use Rattle.or_parts.specs.Devices.{console_of}
 
 -- the world after so many turns
 pub record GrownBy (n : ℕ) (old new : World) : Type 0 where
   pub writes : length new.writes ≤ length old.writes + n
-  pub console : length new.uart.console ≤ length old.uart.console + n
+  pub console : length (console_of new.devices) ≤ length (console_of old.devices) + n
 
 abbrev BoardGrows : ℕ → Board → Option Board → Type 0
 BoardGrows n board None = Unit {0}
@@ -45,7 +46,7 @@ replay_grows board (c ∷ turns) = then_grows board (board_turned board c) (λ n
 abbrev MarkWithin : ℕ → Mark → Type 0
 MarkWithin n mark = (mark.writes ≤ n) × (mark.console ≤ n)
 
-mark_within : (start : Board) (last : Option Board) (n : ℕ) → length start.world.writes ≡ 0 → length start.world.uart.console ≡ 0 → BoardGrows n start last → MarkWithin n (mark_after last)
+mark_within : (start : Board) (last : Option Board) (n : ℕ) → length start.world.writes ≡ 0 → length (console_of start.world.devices) ≡ 0 → BoardGrows n start last → MarkWithin n (mark_after last)
 mark_within start None n none silent grows = (omega arith, omega arith)
 mark_within start (Some last) n none silent grows = (omega (arith, grows.writes, none), omega (arith, grows.console, silent))
 
@@ -58,7 +59,7 @@ marks_behind block before (first ∷ marks) mark all last =
     (all.0, all.1, marks_behind block (before + block) marks mark all.2 (omega (arith, e, last.0), omega (arith, e, last.1)))
 
 -- the marks of a board's first turns are those that a recording can have
-pub marks_fit : (block : ℕ) (start : Board) (turns : List ℕ) (n : ℕ) → length start.world.writes ≡ 0 → length start.world.uart.console ≡ 0
+pub marks_fit : (block : ℕ) (start : Board) (turns : List ℕ) (n : ℕ) → length start.world.writes ≡ 0 → length (console_of start.world.devices) ≡ 0
     → block * n ≤ length turns → AreMarksAfter block 0 (block_marks block start turns n)
 marks_fit block start turns zero none silent inside = tt
 marks_fit block start turns (suc n) none silent inside =

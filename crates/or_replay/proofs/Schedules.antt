@@ -8,6 +8,7 @@ use Rattle.or_sched.specs.Schedule.{AreMarks}
 use Rattle.or_model.specs.Core.{Core, reset_core}
 use Rattle.or_model.specs.World.{new_world}
 use Rattle.or_parts.specs.Uart.{reset_uart}
+use Rattle.or_parts.specs.Devices.{reset_devices}
 use Rattle.or_model.specs.Turn.{Board, replay, reset_cores}
 use Rattle.or_replay.specs.Start.{start}
 use Rattle.or_replay.specs.Board.{all_stopped}
@@ -17,7 +18,7 @@ use Rattle.or_replay.proofs.Bounds.{marks_fit}
 
 -- the marks of any schedule from the start
 pub start_marks : (config : Config) (image input turns : List ℕ) → AreMarks turns (marks (start config image input) turns)
-unfolding marks start new_world reset_uart
+unfolding marks start new_world reset_devices reset_uart
 start_marks config image input turns =
     let inside : 65536 * (length turns / 65536) ≤ length turns = omega arith in
     record {

@@ -5,10 +5,11 @@ use Rattle.or_sched.specs.declared.recording.Mark.{Mark}
 use Rattle.or_mem.specs.Memory.{last_count}
 use Rattle.or_model.specs.World.{World}
 use Rattle.or_model.specs.Turn.{Board, replay}
+use Rattle.or_parts.specs.Devices.{console_of}
 
 -- the lengths of the write list and of the console
 abbrev pub mark_of : World → Mark
-mark_of world = record { writes = min (length world.writes) last_count; console = length world.uart.console }
+mark_of world = record { writes = min (length world.writes) last_count; console = length (console_of world.devices) }
 
 abbrev pub mark_after : Option Board → Mark
 mark_after None = record { writes = 0; console = 0 }

@@ -11,6 +11,7 @@ use Rattle.or_model.specs.World.{World}
 use Rattle.or_model.specs.Caches.{hits, misses}
 use Rattle.or_model.specs.Turn.{Board}
 use Rattle.or_mem.specs.Memory.{last_count}
+use Rattle.or_parts.specs.Devices.{console_of}
 
 abbrev pub stop_text : Option Stop → List ℕ
 stop_text None = codes "running"
@@ -71,5 +72,5 @@ counts_line cores turns console =
 -- the report of a board after so many turns
 unfoldable pub report_text : Board → ℕ → List ℕ
 report_text board turns =
-    codes "orreport 1\n" ++ counts_line (length board.cores) turns (length board.world.uart.console) ++ core_blocks board.world board.cores
+    codes "orreport 1\n" ++ counts_line (length board.cores) turns (length (console_of board.world.devices)) ++ core_blocks board.world board.cores
     ++ (codes "memory " ++ digest_text (sha256 board.world.ram) ++ codes "\n")

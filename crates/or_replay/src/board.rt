@@ -7,6 +7,7 @@ ghost use Rattle.or_model.specs.Turn.{Board as BoardModel, turn, board_turned};
 ghost use Rattle.or_bus.specs.Represents.{Represents};
 ghost use Rattle.or_replay.specs.Marks.{mark_of};
 ghost use Rattle.or_replay.specs.Board.{IsBoard, IsInOrder, IsTurned, steps_left, all_stopped, RefusedBy, Lessens, RunsAt, AreOfBus, IsCoreTurned, TurnsAt, TellsAccess};
+ghost use Rattle.or_parts.specs.Devices.{console_of};
 
 use arrayvec::ArrayVec;
 use or_bus::{Bus, Counts};
@@ -67,7 +68,7 @@ impl Board {
 
     /// The bytes that the console has shown.
     pub fn console(&self) -> &[u8]
-        ensures { (board : BoardModel) → IsBoard self.now.cores self.now.bus board → result.now ≡ board.world.uart.console }
+        ensures { (board : BoardModel) → IsBoard self.now.cores self.now.bus board → result.now ≡ console_of board.world.devices }
     {
         self.bus.console()
     }

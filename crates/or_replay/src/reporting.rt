@@ -7,6 +7,7 @@ ghost use Rattle.or_model.specs.Turn.{Board as BoardModel};
 ghost use Rattle.or_model.specs.World.{World};
 ghost use Rattle.or_bus.specs.Represents.{Represents};
 ghost use Rattle.or_replay.specs.Report.{stop_text, slot_text, progress_line, field_text, place_line, unit_line, behind_register, registers_text, core_block, core_blocks, counts_line, report_text};
+ghost use Rattle.or_parts.specs.Devices.{console_of};
 
 use or_bus::{Bus, Counts};
 use or_core::{Core, Stop};
@@ -221,7 +222,7 @@ fn append_counts(
 fn append_front(cores: &[Core], bus: &Bus, turns: u64, out: &mut Vec<u8>) -> Result<(), AllocError>
     requires { AreOfBus cores.now bus.now }
     ensures { OnOk result ((world : World) → Represents bus.now world
-        → out.new.items ≡ out.old.items ++ codes "orreport 1\n" ++ counts_line (length cores.now) turns (length world.uart.console) ++ core_blocks world cores.now) }
+        → out.new.items ≡ out.old.items ++ codes "orreport 1\n" ++ counts_line (length cores.now) turns (length (console_of world.devices)) ++ core_blocks world cores.now) }
 {
     out.extend_from_slice(b"orreport 1\n")?;
     append_counts(cores.len(), turns, bus.console().len(), out)?;
@@ -246,7 +247,7 @@ fn made(
 ) -> Result<(Vec<u8>, Vec<u8>), AllocError>
     requires { AreOfBus cores.now bus }
     ensures { IfOk result (λ made. (board : BoardModel) → cores.now ≡ board.cores → Represents bus board.world
-        → (made.0.items ≡ report_text board turns) × (made.1.items ≡ board.world.uart.console)) }
+        → (made.0.items ≡ report_text board turns) × (made.1.items ≡ console_of board.world.devices)) }
 {
     let mut text = Vec::new(alloc);
     append_front(cores, &bus, turns, &mut text)?;
@@ -266,7 +267,7 @@ pub fn report(
 ) -> Result<Vec<u8>, NoMemory>
     requires { AreOfBus cores.now bus }
     ensures ok { IfOk result (λ console. (board : BoardModel) → cores.now ≡ board.cores → Represents bus board.world
-        → (console.items ≡ board.world.uart.console) × (out.new.items ≡ out.old.items ++ report_text board turns)) }
+        → (console.items ≡ console_of board.world.devices) × (out.new.items ≡ out.old.items ++ report_text board turns)) }
     ensures err { OnErr result (out.new.items ≡ out.old.items) }
 {
     match made(alloc, cores, bus, turns) {

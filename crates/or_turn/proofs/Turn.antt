@@ -154,8 +154,7 @@ module _ (st : Settings) (turns : List ℕ) (c : ℕ) (core : Core) (follows : B
 read_again : (old new : BusState) (world : World) → new ≡ record old { reads = new.reads } → Represents old world → Represents new world
 read_again old new world e r = subst (λ (b : BusState). Represents b world) (sym e) (record {
   ram = r.ram;
-  uart = r.uart;
-  ompic = r.ompic;
+  devices = r.devices;
   valid = r.valid;
   writes = r.writes;
   lines = r.lines;

@@ -8,4 +8,4 @@ pub invariant_of-self : goal.invariant_of-self
 invariant_of-self c =
     let inside = c.self.inside in
     let same = ap (λ (m : RamState). m.bytes) c.read_line.ensures.counted in
-    subst (λ (ram : List ℕ). AreSound inside.cores ram inside.caches inside.reservations inside.counts inside.ompic) (sym same) c.self.invariant
+    subst (λ (ram : List ℕ). AreSound inside.cores ram inside.caches inside.reservations inside.counts inside.devices.state) (sym same) c.self.invariant
