@@ -10,7 +10,7 @@ use Rattle.or_command.specs.Outcomes.{LeavesAll}
 use Rattle.or_command.specs.Answered.{Answers, AnswersBy, IsDecided, IsDecidedBy}
 use Rattle.or_recorded.specs.Replay.{replay_loads, RecordedVerdict, ReplayWrites, ReplayLacks}
 use Rattle.or_command_debug.specs.Debug.{debug_loads, DebugVerdict, DebugWrites, DebugLacks}
-use Rattle.or_command_source.specs.Assembly.{asm_loads, asm_check, AsmWrites}
+use Rattle.or_command_source.specs.Assembly.{asm_loads, asm_check, AsmWrites, AsmLacks}
 use Rattle.or_command_source.specs.Listing.{dis_loads, dis_check, DisWrites, DisLacks}
 use Rattle.or_command_source.specs.Generation.{gen_loads, gen_check, GenWrites}
 use Rattle.or_command_back.specs.Back.{back_loads, BackVerdict, BackWrites, BackLacks}
@@ -51,7 +51,7 @@ abbrev pub CommandEnds : Shown → ℕ → HostState → HostState → Type 0
 CommandEnds (run names options) status old new = RunAnswers names options status old new
 CommandEnds (hunt names options) status old new = HuntAnswers names options status old new
 CommandEnds (replay files report) status old new = AnswersBy (replay_loads files) (RecordedVerdict files) (ReplayWrites files report) (ReplayLacks files) status old new
-CommandEnds (asm source image symbols) status old new = Answers (asm_loads source) (asm_check source) (AsmWrites image symbols) LeavesAll status old new
+CommandEnds (asm source image symbols) status old new = Answers (asm_loads source) (asm_check source) (AsmWrites image symbols) (AsmLacks source) status old new
 CommandEnds (dis image) status old new = Answers (dis_loads image) (dis_check image) DisWrites (DisLacks image) status old new
 CommandEnds (debug files script) status old new = AnswersBy (debug_loads files script) (DebugVerdict files script) (DebugWrites files) (DebugLacks files script) status old new
 CommandEnds (gen workload source) status old new = Answers gen_loads gen_check (GenWrites workload source) LeavesAll status old new
@@ -65,7 +65,7 @@ abbrev pub IsComplete : Shown → ℕ → HostState → HostState → Type 0
 IsComplete (run names options) status old new = RunDecided names options status old new
 IsComplete (hunt names options) status old new = HuntDecided names options status old new
 IsComplete (replay files report) status old new = IsDecidedBy (replay_loads files) (RecordedVerdict files) (ReplayWrites files report) (ReplayLacks files) status old new
-IsComplete (asm source image symbols) status old new = IsDecided (asm_loads source) (asm_check source) (AsmWrites image symbols) LeavesAll status old new
+IsComplete (asm source image symbols) status old new = IsDecided (asm_loads source) (asm_check source) (AsmWrites image symbols) (AsmLacks source) status old new
 IsComplete (dis image) status old new = IsDecided (dis_loads image) (dis_check image) DisWrites (DisLacks image) status old new
 IsComplete (debug files script) status old new = IsDecidedBy (debug_loads files script) (DebugVerdict files script) (DebugWrites files) (DebugLacks files script) status old new
 IsComplete (gen workload source) status old new = IsDecided gen_loads gen_check (GenWrites workload source) LeavesAll status old new

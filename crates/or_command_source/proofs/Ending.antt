@@ -1,6 +1,6 @@
 -- From how `asm` and `dis` end behind their loads to what they come to.
 use Rattle.std.proofs.Common.{◌≡◌, ◌≢◌, ◌∙◌, sym, ap, refl, subst, ℕ, Bool, List, [], ◌∷◌, ◌++◌, Option, Some, None, inl, inr, arith, append-nil, ◌≤◌, length}
-use Rattle.std.specs.Prelude.{Result, Ok, Err, ◌⊎◌}
+use Rattle.std.specs.Prelude.{Result, Ok, Err, ⊤}
 use Rattle.or_asm.specs.Source.{SourceFault, source_of}
 use Rattle.or_elf.specs.declared.fault.ElfFault.{ElfFault}
 use Rattle.or_elf.specs.Fault.{elf_fault}
@@ -14,19 +14,43 @@ use Rattle.or_command.specs.Writes.{File, AllWritten}
 use Rattle.or_command.specs.Loads.{AreRead, AllRead, LoadsAll}
 use Rattle.or_command.specs.Said.{OnlySays}
 use Rattle.or_command.specs.Ends.{FailedCheck, CommandEnd, done, unread, too_long, refused, unwritten, no_memory}
-use Rattle.or_command.specs.Outcomes.{LeavesAll, AreApart, CommandOutcome}
+use Rattle.or_command.specs.Outcomes.{LeavesAll, AreApart, CommandOutcome, Computes}
+use Rattle.or_command.specs.Finishing.{IfNoMemory}
+use Rattle.or_command.specs.Answered.{FinishEnds}
 use Rattle.or_command.proofs.TellsLemmas.{same_refl, same_then, same_then_step, step_then_same, no_fault_then}
-use Rattle.or_command.proofs.OutcomesLemmas.{read_stays, done_outcome, unwritten_outcome, refusal_outcome}
-use Rattle.or_command_source.specs.Assembly.{asm_loads, asm_check, source_told, source_check, AsmWrites, only_file}
+use Rattle.or_command.proofs.OutcomesLemmas.{read_stays, done_outcome, unwritten_outcome, refusal_outcome, load_lacks}
+use Rattle.or_command.proofs.FinishingLemmas.{loaded_goes_behind}
+use Rattle.or_command_source.specs.Assembly.{asm_loads, asm_check, source_told, source_check, AsmWrites, AsmLacks, only_file}
 use Rattle.or_command_source.specs.Listing.{dis_loads, dis_check, fault_told, fault_check, DisWrites, DisLacks, HasListed, listing}
 use Rattle.or_command_line.specs.declared.Workload.{Workload}
 use Rattle.or_command_source.specs.Generation.{gen_loads, gen_check, GenWrites}
 use Rattle.or_command_source.specs.Listed.{Wrote, DisEnds}
 
 -- the source is not the image that is written
-pub asm_apart : (source image : List ℕ) (symbols : Bool) → image ≢ source → (files : List (List ℕ)) (outs : List File) (console : List ℕ)
+asm_apart : (source image : List ℕ) (symbols : Bool) → image ≢ source → (files : List (List ℕ)) (outs : List File) (console : List ℕ)
     → AsmWrites image symbols files outs console → AreApart (asm_loads source) outs
 asm_apart source image symbols apart files outs console writes = subst (AreApart (asm_loads source)) (sym writes.outputs) ((λ e. apart (sym e), tt), tt)
+
+-- no check need pass before memory is asked for
+any_end : (end : CommandEnd) → IfNoMemory end ⊤
+any_end done = tt
+any_end (unwritten name) = tt
+any_end (unread name) = tt
+any_end (too_long name limit) = tt
+any_end (refused fault) = tt
+any_end no_memory = tt
+
+-- the command behind a source that was loaded
+pub asm_goes_on : (source image : List ℕ) (symbols : Bool) → image ≢ source → (held kept : List (List ℕ)) (end : CommandEnd) (a b c : HostState) → held ≡ []
+    → LoadsAll (asm_loads source) held kept a b → FinishEnds (asm_check source) (AsmWrites image symbols) kept end b c
+    → CommandOutcome (asm_loads source) (asm_check source) (AsmWrites image symbols) (AsmLacks source) end a c
+asm_goes_on source image symbols apart held kept end a b c none loads ends =
+    loaded_goes_behind (asm_loads source) (Computes (asm_check source)) (AsmWrites image symbols) (asm_apart source image symbols apart)
+    (λ files. ⊤) held kept end a b c none loads ends (any_end end)
+
+-- memory that runs out before a source is read
+pub source_lacks : (source : List ℕ) (a b : HostState) → LeavesAll a b → Rose a.lacks b.lacks → AsmLacks source a b
+source_lacks source a b left rose = load_lacks (asm_loads source) (λ files. ⊤) a b left rose
 
 pub source_status : (name : List ℕ) (said : Result (List Piece) SourceFault) (fault : FailedCheck) → source_check name said ≡ Some fault → fault.status ≡ 9
 source_status name (Ok program) fault e = absurd (let b : ⊥ = cc in b)

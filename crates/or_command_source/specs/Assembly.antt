@@ -1,5 +1,5 @@
 -- What the command `asm` loads, checks and writes.
-use Rattle.std.specs.Prelude.{◌≡◌, ℕ, Bool, true, false, List, [], ◌∷◌, Option, Some, None, Result, Ok, Err}
+use Rattle.std.specs.Prelude.{◌≡◌, ℕ, Bool, true, false, List, [], ◌∷◌, Option, Some, None, Result, Ok, Err, ⊤}
 use Rattle.or_words.specs.declared.limits.TheConstants.{SOURCE_LIMIT}
 use Rattle.or_asm_read.specs.Faults.{number_of_fault}
 use Rattle.or_asm.specs.Source.{SourceFault, source_of}
@@ -8,13 +8,20 @@ use Rattle.or_asm.specs.Symbols.{symbols_of}
 use Rattle.or_asm.specs.Sentences.{source_sentence}
 use Rattle.or_elf.specs.Text.{Piece, elf_text}
 use Rattle.or_elf.specs.LabelText.{labelled_text}
+use Rattle.or_host.specs.HostState.{HostState}
 use Rattle.or_command.specs.Loads.{Load}
 use Rattle.or_command.specs.Writes.{File}
 use Rattle.or_command.specs.Lines.{source_line}
 use Rattle.or_command.specs.Ends.{FailedCheck}
+use Rattle.or_command.specs.Outcomes.{LacksMemory}
 
 abbrev pub asm_loads : List ℕ → List Load
 asm_loads source = record { name = source; limit = SOURCE_LIMIT } ∷ []
+
+-- What it leaves where memory ran out: the load found none, or the source was read. The assembler asks for memory before it
+-- has seen all lines, so no check need have passed.
+abbrev pub AsmLacks : List ℕ → HostState → HostState → Type 0
+AsmLacks source = LacksMemory (asm_loads source) (λ files. ⊤)
 
 -- the one file that was loaded
 abbrev pub only_file : List (List ℕ) → List ℕ

@@ -8,9 +8,9 @@ ghost use Rattle.or_command_line.specs.Names.{IsAssembly};
 ghost use Rattle.or_command.specs.Leaves.{Silent};
 ghost use Rattle.or_command.specs.Loads.{bytes_of};
 ghost use Rattle.or_command.specs.Ends.{end_of};
-ghost use Rattle.or_command.specs.Outcomes.{CommandOutcome, LeavesAll};
+ghost use Rattle.or_command.specs.Outcomes.{CommandOutcome};
 ghost use Rattle.or_command.specs.Answered.{Answers, IsDecided, FinishEnds, StopsInCheck};
-ghost use Rattle.or_command_source.specs.Assembly.{asm_loads, asm_check, source_check, AsmWrites, only_file, IsFileOf};
+ghost use Rattle.or_command_source.specs.Assembly.{asm_loads, asm_check, source_check, AsmWrites, AsmLacks, only_file, IsFileOf};
 
 use crate::files::{only_file, write_file};
 use or_asm::{AsmFault, assemble, program_symbols};
@@ -124,7 +124,7 @@ fn assembled<'a, H: Host>(
 ) -> Outcome<'a>
     requires names { IsAssembly source.now image.now }
     requires none { files.old.items ≡ [] }
-    ensures outcome { CommandOutcome (asm_loads source.now) (asm_check source.now) (AsmWrites image.now symbols) LeavesAll (end_of result) (H.state host.old) (H.state host.new) }
+    ensures outcome { CommandOutcome (asm_loads source.now) (asm_check source.now) (AsmWrites image.now symbols) (AsmLacks source.now) (end_of result) (H.state host.old) (H.state host.new) }
     ensures silent { Silent (H.state host.old) (H.state host.new) }
 {
     let input = Input {
@@ -146,8 +146,8 @@ fn assembled<'a, H: Host>(
 /// 9 the source has a fault. After 5, 7, 8 and 9 nothing is written or created.
 pub fn asm<H: Host>(alloc: Global, source: &str, image: &str, symbols: bool, host: &mut H) -> u8
     requires names { IsAssembly source.now image.now }
-    ensures ends { Answers (asm_loads source.now) (asm_check source.now) (AsmWrites image.now symbols) LeavesAll result (H.state host.old) (H.state host.new) }
-    ensures decided { IsDecided (asm_loads source.now) (asm_check source.now) (AsmWrites image.now symbols) LeavesAll result (H.state host.old) (H.state host.new) }
+    ensures ends { Answers (asm_loads source.now) (asm_check source.now) (AsmWrites image.now symbols) (AsmLacks source.now) result (H.state host.old) (H.state host.new) }
+    ensures decided { IsDecided (asm_loads source.now) (asm_check source.now) (AsmWrites image.now symbols) (AsmLacks source.now) result (H.state host.old) (H.state host.new) }
     ensures command { result ≢ 2 }
 {
     let mut files = Loaded::new_in(alloc);
