@@ -1,6 +1,5 @@
 -- What the world answers to an access, by what answers it.
-use Rattle.std.proofs.Common.{◌≡◌, ℕ, ◌+◌, ◌%◌, Bool, Ok, Err, length, subst, ap, sym, ◌∙◌}
-use Rattle.std.specs.Prelude.{if◌then◌else◌}
+use Rattle.std.proofs.Common.{◌≡◌, ℕ, Bool, Ok, Err, length, subst, ap, sym, ◌∙◌}
 use Rattle.or_words.specs.declared.Width.{Width}
 use Rattle.or_parts.specs.Memory.{value_at}
 use Rattle.or_parts.specs.declared.memory_map.Device.{Device}

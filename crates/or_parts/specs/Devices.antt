@@ -1,5 +1,5 @@
 -- The devices of the board, as one part: what their registers read and do, and the interrupt lines that they raise.
-use Rattle.std.specs.Prelude.{ℕ, ◌+◌, ◌%◌, ◌^◌, Bool, if◌then◌else◌, List, [], ◌∷◌, length, map, sum, replicate}
+use Rattle.std.specs.Prelude.{ℕ, ◌+◌, ◌%◌, ◌^◌, Bool, if◌then◌else◌, List, [], ◌∷◌, length, replicate}
 use Rattle.or_parts.specs.declared.memory_map.Device.{Device}
 use Rattle.or_parts.specs.declared.memory_map.Device.TheVariants.{Uart, Ompic}
 use Rattle.or_parts.specs.declared.memory_map.Mapping.{Mapping}

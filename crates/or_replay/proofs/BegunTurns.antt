@@ -15,7 +15,7 @@ use Rattle.or_core.proofs.Begins.{begun_within-more, begun_within-waits, begun_w
 use Rattle.or_core.proofs.Traces.{trace_within-more, trace_within-waits, trace_within-stops, trace_within-end}
 use Rattle.or_replay.specs.declared.stepping.Breakpoint.{Breakpoint}
 use Rattle.or_replay.specs.Board.{IsBoard, IsInOrder, left_of}
-use Rattle.or_replay.specs.Stepping.{stepped, with_steps, board_stepped, is_hit, hits_any, is_pause, first_from, step_pause, board_step_pause, rest_trace, IsInside, HasBegun, IsCoreEnded, IsCoreUntil, IsTurnedUntil}
+use Rattle.or_replay.specs.Stepping.{stepped, with_steps, board_stepped, is_hit, hits_any, is_pause, first_from, step_pause, board_step_pause, rest_trace, IsInside, HasBegun, IsCoreUntil, IsTurnedUntil}
 use Rattle.or_replay.specs.declared.stepping.Until.{Until}
 use Rattle.or_replay.specs.declared.stepping.Until.TheVariants.{Inside, Ended}
 use Rattle.or_replay.specs.Watching.{board_access}
