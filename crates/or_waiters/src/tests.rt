@@ -16,13 +16,21 @@ fn who_is_passed_is_woken_and_then_served(rt: HostRuntime) {
     assert_eq!(rt; waiters.choose(&full_stay(256)), None, "nobody waits");
     waiters.begin(1);
     waiters.announce(1);
-    assert_eq!(rt; waiters.choose(&full_stay(512)), Some(1), "woken at half of the bound");
+    assert_eq!(rt;
+        waiters.choose(&full_stay(512)),
+        Some(1),
+        "woken at half of the bound"
+    );
     assert!(rt; waiters.may_take(0), "half of the bound");
     assert_eq!(rt; waiters.choose(&full_stay(768)), Some(1), "the bound");
     assert!(rt; !waiters.may_take(0), "the bus is kept for core 1");
     assert!(rt; waiters.may_take(1), "the bus is kept for core 1");
     waiters.end(1);
-    assert_eq!(rt; waiters.choose(&full_stay(1024)), None, "nobody waits any more");
+    assert_eq!(rt;
+        waiters.choose(&full_stay(1024)),
+        None,
+        "nobody waits any more"
+    );
     assert!(rt; waiters.may_take(0), "the bus is kept for nobody");
 }
 
@@ -32,11 +40,21 @@ fn the_bus_is_kept_for_who_waits_longest(rt: HostRuntime) {
     waiters.begin(2);
     assert_eq!(rt; waiters.choose(&full_stay(256)), None, "passed by one stay");
     waiters.begin(1);
-    assert_eq!(rt; waiters.choose(&full_stay(1280)), Some(2), "core 2 waits longest");
-    assert!(rt; waiters.may_take(2) && !waiters.may_take(1), "kept for core 2");
+    assert_eq!(rt;
+        waiters.choose(&full_stay(1280)),
+        Some(2),
+        "core 2 waits longest"
+    );
+    assert!(rt;
+        waiters.may_take(2) && !waiters.may_take(1),
+        "kept for core 2"
+    );
     waiters.end(2);
     assert_eq!(rt; waiters.choose(&full_stay(2304)), Some(1), "core 1 is left");
-    assert!(rt; waiters.may_take(1) && !waiters.may_take(2), "kept for core 1");
+    assert!(rt;
+        waiters.may_take(1) && !waiters.may_take(2),
+        "kept for core 1"
+    );
 }
 
 #[test]
@@ -50,7 +68,10 @@ fn who_spins_hands_over_at_once(rt: HostRuntime) {
         spins: true,
     };
     assert_eq!(rt; waiters.choose(&end), Some(3), "the only waiter");
-    assert!(rt; waiters.may_take(3) && !waiters.may_take(0), "kept for core 3");
+    assert!(rt;
+        waiters.may_take(3) && !waiters.may_take(0),
+        "kept for core 3"
+    );
 }
 
 // How many turns of others core 7 waits, while these take the bus whenever they may.

@@ -12,7 +12,6 @@ ghost use Rattle.or_turn.specs.Units.{Fresh, AreOpened};
 
 use super::Shared;
 use super::steps::{Top, enrol, split};
-use or_waiters::Waiters;
 use crate::unit::{Place, Unit};
 use crate::view::{OpenedWith, Transfer};
 use arrayvec::ArrayVec;
@@ -21,6 +20,7 @@ use or_bus::Bus;
 use or_core::Core;
 use or_replay::{Board, OpenFault};
 use or_shown::Shown;
+use or_waiters::Waiters;
 use or_words::limits::BLOCK;
 use or_words::{Config, NoMemory};
 use std::alloc::Global;

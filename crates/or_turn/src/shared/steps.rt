@@ -5,11 +5,11 @@ ghost use Rattle.or_turn.specs.Schedules.{board_of, core_at};
 ghost use Rattle.or_turn.specs.Rule.{longer};
 ghost use Rattle.or_turn.specs.Told.{TakesBus, waiting_view, enrolled_view, closed_view, next_view, both_view, halves, JoinConfirmed};
 
-use or_waiters::Waiters;
 use crate::plays::{Confirm, Divide, Draw, Enrol, Look, TurnRule, Unite};
 use crate::unit::Place;
 use crate::view::{OpenedWith, Transfer, View};
 use atomic_table::Shared as Steps;
+use or_waiters::Waiters;
 use std::hint;
 use std::sync::Wait;
 

@@ -11,13 +11,13 @@ ghost use Rattle.or_turn.specs.Units.{view, begun, cores, IsOf};
 
 use super::Shared;
 use super::steps::{SERVING, wait_for_bus};
-use or_waiters::StayEnd;
 use crate::pace::Pace;
 use crate::plays::Finish;
 use crate::unit::Unit;
 use crate::view::Transfer;
 use or_core::Core;
 use or_sched::Mark;
+use or_waiters::StayEnd;
 use or_words::limits::BLOCK;
 use std::sync::Wait;
 
