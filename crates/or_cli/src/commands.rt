@@ -2,36 +2,28 @@
 ghost use Rattle.std.specs.Prelude.{◌≡◌, ◌≢◌, ◌↔◌, ◌⊎◌, ℕ, None, IfSome};
 ghost use Rattle.or_command_line.specs.Words.{texts};
 ghost use Rattle.or_command_line.specs.Command.{command_of};
+ghost use Rattle.or_command_line.specs.Command.Shown.{replay, debug, back, race, prof};
 ghost use Rattle.or_words.specs.Settings.{Fits};
 ghost use Rattle.or_command_line.specs.Names.{run_names, hunt_names, recorded_names, AreWritten, AreRecorded, IsReport};
 ghost use Rattle.or_command.specs.Outcomes.{LeavesAll};
-ghost use Rattle.or_command.specs.Answered.{Answers, AnswersBy, IsDecided, IsDecidedBy};
-ghost use Rattle.or_recorded.specs.Replay.{replay_loads, RecordedVerdict, ReplayWrites, ReplayLacks};
+ghost use Rattle.or_command.specs.Answered.{Answers, IsDecided};
 ghost use Rattle.or_command_run.specs.Run.{RunAnswers, RunDecided};
 ghost use Rattle.or_command_hunt.specs.Hunt.{HuntAnswers, HuntDecided};
 ghost use Rattle.or_command_run.specs.Bench.{bench_loads, bench_check, BenchWrites};
 ghost use Rattle.or_command_line.specs.Words.{IsFileName};
 ghost use Rattle.or_command_line.specs.Workloads.{FitsWorkload};
-ghost use Rattle.or_command_debug.specs.Debug.{debug_loads, DebugVerdict, DebugWrites, DebugLacks};
-ghost use Rattle.or_command_prof.specs.Prof.{prof_loads, ProfVerdict, ProfWrites, ProfLacks};
-ghost use Rattle.or_recorded.specs.Race.{race_loads, RaceVerdict, RaceWrites, RaceLacks};
-ghost use Rattle.or_recorded.specs.Files.{names_of, AreNames, loads};
-ghost use Rattle.or_recorded.specs.Command.{Verdict, Writes, CommandLacks};
-ghost use Rattle.or_command_back.specs.Back.{back_loads, BackVerdict, BackWrites, BackLacks};
+ghost use Rattle.or_recorded.specs.Files.{names_of, AreNames};
 ghost use Rattle.or_command_line.specs.Settings.{FitsStay, FitsHunt, FitsEvery};
-ghost use Rattle.or_cli.specs.Top.{threaded_command, lone_command, IsUsage, CommandEnds, IsComplete};
+ghost use Rattle.or_cli.specs.Top.{threaded_command, lone_command, IsUsage, on_a_run, CommandEnds, IsComplete};
 
 use or_board::Gate;
 use or_command::{conclude, say_usage};
-use or_command_back::back;
-use or_command_debug::debug;
 use or_command_hunt::hunt;
 use or_command_line::{Command, Hunt, RaceOptions, Recorded, Run, Workload, explain, parse};
-use or_command_prof::prof;
 use or_command_run::{bench, run, run_status, say_budgets};
 use or_command_source::{asm, dis, generate};
 use or_host::Host;
-use or_recorded::{Names, Race, RecordedCommand, carry_out, replay};
+use or_recorded::{Back, Debug, Names, Prof, Race, RecordedCommand, Replay, carry_out};
 use std::alloc::Global;
 use std::sync::Wait;
 use std::thread::Threads;
@@ -101,10 +93,8 @@ fn recorded_command<C: RecordedCommand, H: Host>(
     host: &mut H,
 ) -> u8
     requires names { AreNames (names_of names.now) }
-    ensures ends { AnswersBy (loads (names_of names.now)) (Verdict (C.fault command.now) (C.Makes command.now) (names_of names.now))
-        (Writes (C.fault command.now) (C.Makes command.now) (names_of names.now)) (CommandLacks (names_of names.now)) result (H.state host.old) (H.state host.new) }
-    ensures complete { IsDecidedBy (loads (names_of names.now)) (Verdict (C.fault command.now) (C.Makes command.now) (names_of names.now))
-        (Writes (C.fault command.now) (C.Makes command.now) (names_of names.now)) (CommandLacks (names_of names.now)) result (H.state host.old) (H.state host.new) }
+    ensures ends { (on_a_run (C.fault command.now) (C.Makes command.now) (names_of names.now)).Ends result (H.state host.old) (H.state host.new) }
+    ensures complete { (on_a_run (C.fault command.now) (C.Makes command.now) (names_of names.now)).Decided result (H.state host.old) (H.state host.new) }
     ensures command { result ≢ 2 }
 {
     let outcome = carry_out(alloc, names, command, host);
@@ -112,52 +102,68 @@ fn recorded_command<C: RecordedCommand, H: Host>(
 }
 
 // Replays a recorded run, and says how that ended.
-fn replay_command<H: Host>(alloc: Global, names: &Recorded<'_>, report: &str, host: &mut H) -> u8
+fn replay_command<'a, H: Host>(
+    alloc: Global,
+    names: &Recorded<'a>,
+    report: &'a str,
+    host: &mut H,
+) -> u8
     requires names { AreRecorded (recorded_names names.now) }
     requires report { IsReport (recorded_names names.now) report.now }
-    ensures ends { AnswersBy (replay_loads (recorded_names names.now)) (RecordedVerdict (recorded_names names.now)) (ReplayWrites (recorded_names names.now) report.now) (ReplayLacks (recorded_names names.now))
-        result (H.state host.old) (H.state host.new) }
-    ensures complete { IsDecidedBy (replay_loads (recorded_names names.now)) (RecordedVerdict (recorded_names names.now)) (ReplayWrites (recorded_names names.now) report.now) (ReplayLacks (recorded_names names.now))
-        result (H.state host.old) (H.state host.new) }
+    ensures ends { CommandEnds (replay (recorded_names names.now) report.now) result (H.state host.old) (H.state host.new) }
+    ensures complete { IsComplete (replay (recorded_names names.now) report.now) result (H.state host.old) (H.state host.new) }
     ensures command { result ≢ 2 }
 {
-    let outcome = replay(alloc, names, report, host);
-    conclude(host, outcome)
+    let names = Names {
+        run: *names,
+        script: None,
+        report: Some(report),
+    };
+    recorded_command(alloc, &names, &Replay, host)
 }
 
 // Debugs a recorded run, and says how that ended.
-fn debug_command<H: Host>(alloc: Global, names: &Recorded<'_>, script: &str, host: &mut H) -> u8
+fn debug_command<'a, H: Host>(
+    alloc: Global,
+    names: &Recorded<'a>,
+    script: &'a str,
+    host: &mut H,
+) -> u8
     requires names { AreRecorded (recorded_names names.now) }
     requires script { IsFileName script.now }
-    ensures ends { AnswersBy (debug_loads (recorded_names names.now) script.now) (DebugVerdict (recorded_names names.now) script.now) (DebugWrites (recorded_names names.now)) (DebugLacks (recorded_names names.now) script.now)
-        result (H.state host.old) (H.state host.new) }
-    ensures complete { IsDecidedBy (debug_loads (recorded_names names.now) script.now) (DebugVerdict (recorded_names names.now) script.now) (DebugWrites (recorded_names names.now)) (DebugLacks (recorded_names names.now) script.now)
-        result (H.state host.old) (H.state host.new) }
+    ensures ends { CommandEnds (debug (recorded_names names.now) script.now) result (H.state host.old) (H.state host.new) }
+    ensures complete { IsComplete (debug (recorded_names names.now) script.now) result (H.state host.old) (H.state host.new) }
     ensures command { result ≢ 2 }
 {
-    let outcome = debug(alloc, names, script, host);
-    conclude(host, outcome)
+    let names = Names {
+        run: *names,
+        script: Some(script),
+        report: None,
+    };
+    recorded_command(alloc, &names, &Debug, host)
 }
 
 // Goes over a recorded run, forward and back, and says how that ended.
-fn back_command<H: Host>(
+fn back_command<'a, H: Host>(
     alloc: Global,
-    names: &Recorded<'_>,
-    script: &str,
+    names: &Recorded<'a>,
+    script: &'a str,
     every: u32,
     host: &mut H,
 ) -> u8
     requires names { AreRecorded (recorded_names names.now) }
     requires script { IsFileName script.now }
     requires every { FitsEvery every }
-    ensures ends { AnswersBy (back_loads (recorded_names names.now) script.now) (BackVerdict (recorded_names names.now) script.now) (BackWrites (recorded_names names.now)) (BackLacks (recorded_names names.now) script.now)
-        result (H.state host.old) (H.state host.new) }
-    ensures complete { IsDecidedBy (back_loads (recorded_names names.now) script.now) (BackVerdict (recorded_names names.now) script.now) (BackWrites (recorded_names names.now)) (BackLacks (recorded_names names.now) script.now)
-        result (H.state host.old) (H.state host.new) }
+    ensures ends { CommandEnds (back (recorded_names names.now) script.now every) result (H.state host.old) (H.state host.new) }
+    ensures complete { IsComplete (back (recorded_names names.now) script.now every) result (H.state host.old) (H.state host.new) }
     ensures command { result ≢ 2 }
 {
-    let outcome = back(alloc, names, script, every, host);
-    conclude(host, outcome)
+    let names = Names {
+        run: *names,
+        script: Some(script),
+        report: None,
+    };
+    recorded_command(alloc, &names, &Back::new(every), host)
 }
 
 // Reports the races of a recorded run, and says how that ended.
@@ -168,10 +174,8 @@ fn race_command<H: Host>(
     host: &mut H,
 ) -> u8
     requires names { AreRecorded (recorded_names names.now) }
-    ensures ends { AnswersBy (race_loads (recorded_names names.now)) (RaceVerdict (recorded_names names.now) options) (RaceWrites (recorded_names names.now) options) (RaceLacks (recorded_names names.now))
-        result (H.state host.old) (H.state host.new) }
-    ensures complete { IsDecidedBy (race_loads (recorded_names names.now)) (RaceVerdict (recorded_names names.now) options) (RaceWrites (recorded_names names.now) options) (RaceLacks (recorded_names names.now))
-        result (H.state host.old) (H.state host.new) }
+    ensures ends { CommandEnds (race (recorded_names names.now) options) result (H.state host.old) (H.state host.new) }
+    ensures complete { IsComplete (race (recorded_names names.now) options) result (H.state host.old) (H.state host.new) }
     ensures command { result ≢ 2 }
 {
     let names = Names {
@@ -195,14 +199,16 @@ fn race_command<H: Host>(
 // Profiles a recorded run, and says how that ended.
 fn prof_command<H: Host>(alloc: Global, names: &Recorded<'_>, host: &mut H) -> u8
     requires names { AreRecorded (recorded_names names.now) }
-    ensures ends { AnswersBy (prof_loads (recorded_names names.now)) (ProfVerdict (recorded_names names.now)) (ProfWrites (recorded_names names.now)) (ProfLacks (recorded_names names.now))
-        result (H.state host.old) (H.state host.new) }
-    ensures complete { IsDecidedBy (prof_loads (recorded_names names.now)) (ProfVerdict (recorded_names names.now)) (ProfWrites (recorded_names names.now)) (ProfLacks (recorded_names names.now))
-        result (H.state host.old) (H.state host.new) }
+    ensures ends { CommandEnds (prof (recorded_names names.now)) result (H.state host.old) (H.state host.new) }
+    ensures complete { IsComplete (prof (recorded_names names.now)) result (H.state host.old) (H.state host.new) }
     ensures command { result ≢ 2 }
 {
-    let outcome = prof(alloc, names, host);
-    conclude(host, outcome)
+    let names = Names {
+        run: *names,
+        script: None,
+        report: None,
+    };
+    recorded_command(alloc, &names, &Prof, host)
 }
 
 // Says that the command line is not valid, and why.

@@ -34,7 +34,7 @@ head_sentence line =
 -- of a recording that is refused
 abbrev pub detail_sentence : ScheduleDetail → List ℕ
 detail_sentence (Head line) = head_sentence line
-detail_sentence (At place) = codes "no recording goes on after byte " ++ decimal place ++ codes ", counted from 0"
+detail_sentence (At place) = codes "unexpected byte at offset " ++ decimal place
 detail_sentence Short = codes "the recording ends too early: is it cut off?"
 detail_sentence (Image digests) = codes "recorded from another image"
 detail_sentence (Input digests) = codes "recorded from another input"

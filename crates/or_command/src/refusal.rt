@@ -63,9 +63,9 @@ impl ScheduleDetail {
         match self {
             ScheduleDetail::Head { line } => Sentence::plain(head_words(*line)),
             ScheduleDetail::At { place } => Sentence::one(
-                "no recording goes on after byte ",
+                "unexpected byte at offset ",
                 Part::Number(*place),
-                ", counted from 0",
+                "",
             ),
             ScheduleDetail::Short => Sentence::plain(
                 "the recording ends too early: is it cut off?",

@@ -45,16 +45,3 @@ image_check name (Some fault) = Some (image_told name fault)
 -- the file at a place among those that were loaded
 abbrev pub file_at : List (List ℕ) → ℕ → List ℕ
 file_at files place = slice_index_or files place []
-
--- the bytes of a recorded run's files: where no input was loaded, it is empty, and the recording is the second file
-pub record RecordedBytes : Type 0 where
-  pub image : List ℕ
-  pub input : List ℕ
-  pub recording : List ℕ
-
-abbrev pub recorded_bytes : Bool → List (List ℕ) → RecordedBytes
-recorded_bytes no_input files = record {
-  image = file_at files 0;
-  input = if no_input then [] else file_at files 1;
-  recording = if no_input then file_at files 1 else file_at files 2;
-}

@@ -1,10 +1,13 @@
 pub mod Accesses
 pub mod Commands
+pub mod Following
+pub mod Levels
 pub mod OneRun
+pub mod Profiled
 pub mod Raced
 pub mod Recorded
 pub mod Replayed
-pub mod Statuses
-pub mod Verdicts
 pub mod Short
-pub mod OneReplay
+pub mod Statuses
+pub mod StepCounts
+pub mod Verdicts

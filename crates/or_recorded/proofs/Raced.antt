@@ -21,7 +21,7 @@ use Rattle.or_recorded.specs.Racing.{AreNumbered, AreRaces, SeesRaces}
 use Rattle.or_recorded.proofs.Accesses.{turned-numbered, board_placed-core}
 
 -- a turn that was made, as the definitions make it
-made_next : {T : Type 0} (turned : Option Board) (done : T) (cores : List Core) (bus : BusState) → IsTurned turned (Ok done) cores bus
+pub made_next : {T : Type 0} (turned : Option Board) (done : T) (cores : List Core) (bus : BusState) → IsTurned turned (Ok done) cores bus
     → (board : Board) × (turned ≡ Some board) × IsBoard cores bus board
 made_next None done cores bus is = absurd is
 made_next (Some next) done cores bus is = (next, refl, is)
@@ -43,7 +43,7 @@ start-numbered : (config : Config) (image input : List ℕ) → AreNumbered (sta
 unfolding start
 start-numbered config image input = numbered-reset_cores config config.cores
 
-start-length : (config : Config) (image input : List ℕ) → length (start config image input).cores ≡ config.cores
+pub start-length : (config : Config) (image input : List ℕ) → length (start config image input).cores ≡ config.cores
 unfolding start
 start-length config image input = length-reset_cores config config.cores
 

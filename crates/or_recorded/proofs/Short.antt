@@ -7,20 +7,18 @@ use Rattle.or_sched.specs.declared.recording.RecFault.TheVariants.{BadHead, BadR
 use Rattle.or_command.specs.Ends.{FailedCheck, CommandEnd, done, unread, too_long, refused, unwritten, no_memory}
 use Rattle.or_command.specs.Finishing.{IfNoMemory, end_of_check}
 use Rattle.or_command_line.specs.Names.{Recorded}
-use Rattle.or_command_image.specs.Loaded.{RecordedBytes}
-use Rattle.or_recorded.specs.declared.checked.Checked.{Checked}
 use Rattle.or_recorded.specs.declared.checked.RunFault.{RunFault}
 use Rattle.or_recorded.specs.declared.checked.RunFault.TheVariants.{Text, NoMemoryForText, Image, Input, Elf, Turns, NoMemory}
 use Rattle.or_recorded.specs.declared.refused.OwnFault.{OwnFault}
 use Rattle.or_recorded.specs.declared.refused.Fault.{Fault}
 use Rattle.or_recorded.specs.declared.refused.Fault.TheVariants.{OfRun, Own}
-use Rattle.or_recorded.specs.Checked.{IsFirstFault, IsChecked, IsRunChecked, RunsShort}
-use Rattle.or_recorded.specs.Replay.{fault_check, bytes_in, FilesRunShort as ReplayRunsShort}
+use Rattle.or_recorded.specs.Checked.{IsFirstFault, IsChecked, RunsShort}
+use Rattle.or_recorded.specs.Refused.{fault_check}
 use Rattle.or_recorded.specs.Files.{Names, Files, files_in}
 use Rattle.or_recorded.specs.Command.{Run, IsRunOf, IsFault, told_check, FilesRunShort}
 
 -- what holds holds where memory ran out
-pub if_no_memory : (end : CommandEnd) (Fact : Type 0) → Fact → IfNoMemory end Fact
+if_no_memory : (end : CommandEnd) (Fact : Type 0) → Fact → IfNoMemory end Fact
 if_no_memory done Fact holds = tt
 if_no_memory (unread name) Fact holds = tt
 if_no_memory (too_long name limit) Fact holds = tt
@@ -29,7 +27,7 @@ if_no_memory (unwritten name) Fact holds = tt
 if_no_memory no_memory Fact holds = holds
 
 -- a run whose checks pass is sound
-pub checked_short : (image input recording : List ℕ) (head : Head) (turns : List ℕ) (marks : List Mark) → IsChecked image input recording head turns marks
+checked_short : (image input recording : List ℕ) (head : Head) (turns : List ℕ) (marks : List Mark) → IsChecked image input recording head turns marks
     → RunsShort image input recording
 checked_short image input recording head turns marks is =
     inr (record { head = head; turns = turns; marks = marks; of_run = is.of_run; sound = is.sound })
@@ -52,21 +50,6 @@ fault_short image input recording names NoMemory is none = inr is
 ended_short : (found : Option FailedCheck) (end : CommandEnd) (Fact : Type 0) → (found ≡ None → Fact) → end ≡ end_of_check found → IfNoMemory end Fact
 ended_short None end Fact none is = if_no_memory end Fact (none refl)
 ended_short (Some check) end Fact none is = subst (λ (e : CommandEnd). IfNoMemory e Fact) (sym is) tt
-
--- the checks of a recorded run
-pub run_short : (names : Recorded) (files : List (List ℕ)) (bytes : RecordedBytes) (fault : RunFault) (end : CommandEnd) → bytes ≡ bytes_in names files
-    → IsFirstFault bytes.image bytes.input bytes.recording fault → end ≡ end_of_check (fault_check names fault) → IfNoMemory end (ReplayRunsShort names files)
-run_short names files bytes fault end same first is =
-    let here : IsFirstFault (bytes_in names files).image (bytes_in names files).input (bytes_in names files).recording fault =
-    subst (λ (x : RecordedBytes). IsFirstFault x.image x.input x.recording fault) same first in
-    ended_short (fault_check names fault) end (ReplayRunsShort names files)
-    (fault_short (bytes_in names files).image (bytes_in names files).input (bytes_in names files).recording names fault here) is
-
-pub run_checked_short : (names : Recorded) (files : List (List ℕ)) (run : Checked) (end : CommandEnd)
-    → IsRunChecked (bytes_in names files).image (bytes_in names files).input (bytes_in names files).recording run → IfNoMemory end (ReplayRunsShort names files)
-run_checked_short names files run end is =
-    if_no_memory end (ReplayRunsShort names files)
-    (checked_short (bytes_in names files).image (bytes_in names files).input (bytes_in names files).recording run.recording.head run.recording.turns.items run.recording.marks.items is.checked)
 
 -- the checks of a command on a recorded run
 module _ (fault : Run → Option OwnFault) (Makes : Run → List ℕ → List ℕ → Type 0) where

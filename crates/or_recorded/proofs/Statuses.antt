@@ -7,7 +7,7 @@ use Rattle.or_script.specs.declared.fault.ScriptFault.TheVariants.{BadCommand, O
 use Rattle.or_recorded.specs.declared.refused.OwnFault.{OwnFault}
 use Rattle.or_recorded.specs.declared.refused.OwnFault.TheVariants.{Symbols, Script, NoMemory as NoMemoryForOwn}
 use Rattle.or_recorded.specs.Files.{Names}
-use Rattle.or_recorded.specs.Refused.{fault_told, symbols_check, script_told, script_check, named_script_check, own_check}
+use Rattle.or_recorded.specs.Refused.{schedule_told, schedule_check, text_check, turn_detail, fault_check, fault_told, symbols_check, script_told, script_check, named_script_check, own_check}
 use Rattle.or_recorded.specs.Command.{Run, Verdict}
 use Rattle.or_command.specs.declared.refusal.ScheduleDetail.{ScheduleDetail}
 use Rattle.or_command.specs.declared.refusal.ScheduleDetail.TheVariants as detail
@@ -19,7 +19,6 @@ use Rattle.or_sched.specs.declared.recording.RecFault.TheVariants.{BadHead, BadR
 use Rattle.or_command_line.specs.Names.{Recorded}
 use Rattle.or_recorded.specs.declared.checked.RunFault.{RunFault}
 use Rattle.or_recorded.specs.declared.checked.RunFault.TheVariants.{Text, NoMemoryForText, Image, Input, Elf, Turns, NoMemory}
-use Rattle.or_recorded.specs.Replay.{schedule_told, schedule_check, text_check, turn_detail, fault_check, RecordedVerdict}
 
 -- the status of a check that is given
 status_is : (told check : FailedCheck) → Some told ≡ Some check → check.status ≡ told.status
@@ -46,14 +45,10 @@ of_fault names (Turns fault) check told = of_schedule names.schedule (turn_detai
 of_fault names NoMemoryForText check told = absurd (let b : ⊥ = cc in b)
 of_fault names NoMemory check told = absurd (let b : ⊥ = cc in b)
 
--- none of them is 2
-pub recorded_not_two : (names : Recorded) (files : List (List ℕ)) (check : FailedCheck) → RecordedVerdict names files (Some check) → check.status ≢ 2
-recorded_not_two names files check refused = of_fault names refused.fault check refused.told
-
 twelve : (name : List ℕ) (fault : SymFault) (check : FailedCheck) → Some (fault_told name fault) ≡ Some check → check.status ≢ 2
 twelve name fault check told two = let status = status_is (fault_told name fault) check told in absurd (omega (arith, status, two))
 
-pub of_symbols : (name : List ℕ) (fault : SymFault) (check : FailedCheck) → symbols_check name fault ≡ Some check → check.status ≢ 2
+of_symbols : (name : List ℕ) (fault : SymFault) (check : FailedCheck) → symbols_check name fault ≡ Some check → check.status ≢ 2
 of_symbols name (BadSections field) check told = twelve name (BadSections field) check told
 of_symbols name (BadTable index) check told = twelve name (BadTable index) check told
 of_symbols name (BadName index) check told = twelve name (BadName index) check told
@@ -62,7 +57,7 @@ of_symbols name NoMemoryForSymbols check told = absurd (let b : ⊥ = cc in b)
 ten : (name : List ℕ) (number line : ℕ) (fault : ScriptFault) (check : FailedCheck) → Some (script_told name number line fault) ≡ Some check → check.status ≢ 2
 ten name number line fault check told two = let status = status_is (script_told name number line fault) check told in absurd (omega (arith, status, two))
 
-pub of_script : (name : List ℕ) (fault : ScriptFault) (check : FailedCheck) → script_check name fault ≡ Some check → check.status ≢ 2
+of_script : (name : List ℕ) (fault : ScriptFault) (check : FailedCheck) → script_check name fault ≡ Some check → check.status ≢ 2
 of_script name (BadCommand line) check told = ten name 1 line (BadCommand line) check told
 of_script name (OutOfRange line) check told = ten name 2 line (OutOfRange line) check told
 of_script name NoMemoryForScript check told = absurd (let b : ⊥ = cc in b)

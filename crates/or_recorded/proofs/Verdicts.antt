@@ -1,4 +1,4 @@
--- A recorded run has one verdict.
+-- The files of a command on a recorded run have one verdict.
 use Rattle.std.proofs.Common.{◌≡◌, ◌≢◌, ℕ, List, [], Option, Some, None, refl, ap, sym, ◌∙◌, subst, take, append-nil}
 use Rattle.std.specs.Prelude.{◌⊎◌, Err}
 use Rattle.std.proofs.Common.{inl, inr, arith}
@@ -17,7 +17,6 @@ use Rattle.or_sched.proofs.Faults.{one_fault, no_fault}
 use Rattle.or_command.specs.declared.refusal.Digests.{Digests}
 use Rattle.or_command.specs.Ends.{FailedCheck}
 use Rattle.or_command_line.specs.Names.{Recorded}
-use Rattle.or_command_image.specs.Loaded.{RecordedBytes}
 use Rattle.or_replay.specs.Start.{start}
 use Rattle.or_replay.specs.declared.follow.TurnFault.{TurnFault}
 use Rattle.or_replay.specs.Following.{Followed, IsFollowable}
@@ -26,7 +25,11 @@ use Rattle.or_replay.proofs.FirstRefusal.{followed_in_one_way}
 use Rattle.or_recorded.specs.declared.checked.RunFault.{RunFault}
 use Rattle.or_recorded.specs.declared.checked.RunFault.TheVariants.{Text, NoMemoryForText, Image, Input, Elf, Turns, NoMemory}
 use Rattle.or_recorded.specs.Checked.{IsTextFault, IsFirstFault, IsOtherImage, IsOtherInput, IsOfRun, IsImageFault, IsTurnFault, IsChecked}
-use Rattle.or_recorded.specs.Replay.{fault_check, BytesJudged}
+use Rattle.or_recorded.specs.declared.refused.OwnFault.{OwnFault}
+use Rattle.or_recorded.specs.Command.{Run, IsRunOf, FailsToRun, FailsItself, Judged, Verdict}
+use Rattle.or_recorded.specs.Files.{Names, Files, files_in}
+use Rattle.or_recorded.specs.Refused.{fault_check, own_check}
+use Rattle.or_recorded.proofs.OneRun.{one_run}
 use Rattle.or_recorded.proofs.Recorded.{marks_fit}
 
 some_none : {T : Type 0} (found : Option T) (x : T) → found ≡ None → found ≡ Some x → ⊥
@@ -202,13 +205,46 @@ module _ (image input text : List ℕ) where
   checks_agree names other check also_check (inr none) also =
       absurd (some_none (fault_check names other) also_check none also)
 
--- the checks of a recorded run find one thing
-pub one_verdict : (names : Recorded) (bytes : RecordedBytes) (found other : Option FailedCheck) → BytesJudged names bytes found → BytesJudged names bytes other → found ≡ other
-one_verdict names bytes None None is also = refl
-one_verdict names bytes None (Some check) is also =
-    absurd (sound_or_refused bytes.image bytes.input bytes.recording is.head is.turns is.marks names also.fault check is.checked also.first also.told)
-one_verdict names bytes (Some check) None is also =
-    absurd (sound_or_refused bytes.image bytes.input bytes.recording also.head also.turns also.marks names is.fault check also.checked is.first is.told)
-one_verdict names bytes (Some check) (Some other) is also =
-    ap Some (checks_agree bytes.image bytes.input bytes.recording names also.fault check other
-    (one_check bytes.image bytes.input bytes.recording names is.fault also.fault check is.first also.first is.told) also.told)
+  -- checks of a run that fail agree
+  pub one_failure : (names : Recorded) (fault other : RunFault) (check also_check : FailedCheck) → IsFirstFault image input text fault → IsFirstFault image input text other
+      → fault_check names fault ≡ Some check → fault_check names other ≡ Some also_check → check ≡ also_check
+  one_failure names fault other check also_check is also told also_told =
+      checks_agree names other check also_check (one_check names fault other check is also told) also_told
+
+-- a command on a recorded run
+module _ (fault : Run → Option OwnFault) (Makes : Run → List ℕ → List ℕ → Type 0) (names : Names) where
+  -- a check of the run fails only where the run has a fault
+  run_or_failure : (files : Files) (run : Run) (check : FailedCheck) → IsRunOf files run → FailsToRun names files check → ⊥
+  run_or_failure files run check is fails =
+      let checked = subst (λ (f : Files). IsChecked f.image f.input f.recording run.head run.turns run.marks) is.of is.checked in
+      sound_or_refused files.image files.input files.recording run.head run.turns run.marks names.run fails.fault check checked fails.first fails.told
+
+  one_own : (files : Files) (run other : Run) (found also : Option OwnFault) → IsRunOf files run → IsRunOf files other → fault run ≡ found → fault other ≡ also → found ≡ also
+  one_own files run other found also is is_other here there = sym here ∙ ap fault (one_run files run other is is_other) ∙ there
+
+  none_some : (own : OwnFault) → ◌≡◌ {A = Option OwnFault} None (Some own) → ⊥
+  none_some own e = let b : ⊥ = cc in b
+
+  same_own : (files : Files) (check other : FailedCheck) → FailsItself fault Makes names files check → FailsItself fault Makes names files other → Some check ≡ Some other
+  same_own files check other is also =
+      let owns : Some is.own ≡ Some also.own = one_own files is.run also.run (Some is.own) (Some also.own) is.is also.is is.fails also.fails in
+      let same : is.own ≡ also.own = cc in
+      sym is.told ∙ ap (own_check names) same ∙ also.told
+
+  -- the checks of a command find one thing
+  one_judged : (files : Files) (found other : Option FailedCheck) → Judged fault Makes names files found → Judged fault Makes names files other → found ≡ other
+  one_judged files None None is also = refl
+  one_judged files None (Some check) is (inl refused) = absurd (run_or_failure files is.run check is.is refused)
+  one_judged files None (Some check) is (inr refused) =
+      absurd (none_some refused.own (one_own files is.run refused.run None (Some refused.own) is.is refused.is is.sound refused.fails))
+  one_judged files (Some check) None (inl refused) also = absurd (run_or_failure files also.run check also.is refused)
+  one_judged files (Some check) None (inr refused) also =
+      absurd (none_some refused.own (one_own files also.run refused.run None (Some refused.own) also.is refused.is also.sound refused.fails))
+  one_judged files (Some check) (Some other) (inl is) (inl also) =
+      ap Some (one_failure files.image files.input files.recording names.run is.fault also.fault check other is.first also.first is.told also.told)
+  one_judged files (Some check) (Some other) (inl is) (inr also) = absurd (run_or_failure files also.run check also.is is)
+  one_judged files (Some check) (Some other) (inr is) (inl also) = absurd (run_or_failure files is.run other is.is also)
+  one_judged files (Some check) (Some other) (inr is) (inr also) = same_own files check other is also
+
+  pub one_verdict : (read : List (List ℕ)) (found other : Option FailedCheck) → Verdict fault Makes names read found → Verdict fault Makes names read other → found ≡ other
+  one_verdict read found other is also = one_judged (files_in names read) found other is also

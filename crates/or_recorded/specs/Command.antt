@@ -14,9 +14,8 @@ use Rattle.or_recorded.specs.declared.refused.OwnFault.{OwnFault}
 use Rattle.or_recorded.specs.declared.refused.Fault.{Fault}
 use Rattle.or_recorded.specs.declared.refused.Fault.TheVariants.{OfRun, Own}
 use Rattle.or_recorded.specs.Checked.{IsChecked, IsFirstFault, RunsShort}
-use Rattle.or_recorded.specs.Replay.{fault_check}
 use Rattle.or_recorded.specs.Files.{Names, Files, loads, files_in, outs_of}
-use Rattle.or_recorded.specs.Refused.{own_check, Fails}
+use Rattle.or_recorded.specs.Refused.{fault_check, own_check, Fails}
 
 -- a recorded run: the bytes of its files, and what its recording tells
 pub record Run : Type 0 where

@@ -1,8 +1,13 @@
+pub mod Back
 pub mod Checked
 pub mod Command
+pub mod Debug
 pub mod Events
 pub mod Files
+pub mod Prof
+pub mod Profiling
 pub mod Race
 pub mod Racing
 pub mod Refused
 pub mod Replay
+pub mod Traces

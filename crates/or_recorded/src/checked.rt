@@ -15,9 +15,9 @@ ghost use Rattle.or_recorded.specs.Checked.{TextFault, IsFirstFault, IsOfRun, Is
 ghost use Rattle.or_recorded.specs.declared.checked.Checked.{Checked as CheckedModel};
 
 use or_command::Digests;
-use or_command_image::{RecordedFiles, input_for_board};
+use or_command_image::input_for_board;
 use or_elf::ElfFault;
-use or_replay::{Board, OpenFault, TurnFault, Unwatched, Watcher};
+use or_replay::{Board, OpenFault, TurnFault, Watcher};
 use or_sched::{Head, Mark, Reader, RecFault};
 use or_words::Config;
 use sha2::{Digest, Sha256};
@@ -59,29 +59,12 @@ pub struct Checked {
 
 impl Checked {
     /// The recording alone, for a command that makes its turns again.
-    pub fn into_recording(self) -> Recording
+    pub(crate) fn into_recording(self) -> Recording
         ensures { result ≡ self.recording }
     {
         let Checked { recording, board } = self;
         let _ended = board;
         recording
-    }
-}
-
-/// Makes the checks of a recorded run in their order, and follows it to its end.
-///
-/// Errors: the first check that fails; NoMemory.
-pub fn check(alloc: Global, files: RecordedFiles<'_>) -> Result<Checked, RunFault>
-    requires limit { length files.image.now ≤ IMAGE_LIMIT }
-    ensures { MatchResult result (λ run. IsRunChecked files.entry.image.now files.entry.input.now files.entry.recording.now run)
-        (λ fault. IsFirstFault files.entry.image.now files.entry.input.now files.entry.recording.now fault) }
-{
-    match open_run(alloc, files.image, files.input, files.recording) {
-        Ok(run) => match follow(run, &mut Unwatched) {
-            Ok(run) => Ok(run),
-            Err(fault) => Err(RunFault::Turns(fault)),
-        },
-        Err(fault) => Err(fault),
     }
 }
 
@@ -180,7 +163,7 @@ fn check_image(
 }
 
 /// The board at the start of a run. Errors: Elf exactly where the image has this fault; NoMemory.
-pub fn open_board(
+pub(crate) fn open_board(
     alloc: Global,
     config: &Config,
     image: &[u8],
@@ -211,6 +194,7 @@ pub(crate) fn follow<W: Watcher>(run: Checked, watcher: &mut W) -> Result<Checke
     ensures recording { IfOk result (λ ended. ended.recording ≡ run.recording) }
     ensures seen { IfOk result (λ ended. (first : BoardModel) → W.Sees watcher.old first run.recording.turns.items 0 run.board.cores run.board.bus
         → W.Sees watcher.new first run.recording.turns.items (length run.recording.turns.items) ended.board.cores ended.board.bus) }
+    ensures kept { (image : List ℕ) → W.Keeps watcher.old image → W.Keeps watcher.new image }
 {
     let Checked {
         recording,

@@ -58,9 +58,10 @@ pub trait RecordedCommand {
         requires limit { length files.image.now ≤ IMAGE_LIMIT }
         requires fits { Fits config.now }
         requires sound { elf_fault files.image.now (ram_bytes config.now) ≡ None }
-        ensures { IfOk result (λ watch. (turns : List ℕ) (cores : List CoreModel) (bus : BusState)
+        ensures seen { IfOk result (λ watch. (turns : List ℕ) (cores : List CoreModel) (bus : BusState)
             → IsBoard cores bus (start config.now files.entry.image.now files.entry.input.now)
-            → Self.Watch.Sees watch (start config.now files.entry.image.now files.entry.input.now) turns 0 cores bus) };
+            → Self.Watch.Sees watch (start config.now files.entry.image.now files.entry.input.now) turns 0 cores bus) }
+        ensures kept { IfOk result (λ watch. Self.Watch.Keeps watch files.entry.image.now) };
 
     /// The texts of a run whose checks have passed and whose turns it has seen. Errors: its own check that fails; NoMemory.
     fn make(
@@ -76,6 +77,7 @@ pub trait RecordedCommand {
         requires checked { IsRunChecked files.image.now files.input.now files.recording.now run }
         requires seen { Self.Watch.Sees watch (start_of (run_of (bytes_of_files files) run.recording))
             run.recording.turns.items (length run.recording.turns.items) run.board.cores run.board.bus }
+        requires kept { Self.Watch.Keeps watch files.image.now }
         ensures { MatchResult result
             (λ texts. (fault self.now (run_of (bytes_of_files files.entry) run.recording) ≡ None)
             × Makes self.now (run_of (bytes_of_files files.entry) run.recording) texts.report.items texts.console.items)
@@ -95,6 +97,7 @@ fn texts_of_run<C: RecordedCommand>(
     requires fits { Fits run.recording.head.config }
     requires opened { IsRunOpened files.image.now files.input.now files.recording.now run }
     requires seen { C.Watch.Sees watch (start_of (run_of (bytes_of_files files) run.recording)) run.recording.turns.items 0 run.board.cores run.board.bus }
+    requires kept { C.Watch.Keeps watch files.image.now }
     ensures { MatchResult result
         (λ texts. IsMade (C.fault command.now) (C.Makes command.now) (bytes_of_files files.entry) texts.report.items texts.console.items)
         (λ fault. IsFault (C.fault command.now) (C.Makes command.now) (bytes_of_files files.entry) fault) }

@@ -3,17 +3,22 @@
 
 mod checked;
 mod command;
+mod counting;
+mod debugging;
 mod files;
+mod going_back;
 pub mod laws;
+mod profiling;
 mod racing;
 mod refused;
 mod replaying;
-mod telling;
 
-pub use checked::{Checked, Recording, RunFault, check, open_board};
+pub use checked::{Checked, Recording, RunFault};
 pub use command::{RecordedCommand, Texts, carry_out};
+pub use debugging::Debug;
 pub use files::{Files, Names};
+pub use going_back::Back;
+pub use profiling::{Prof, ProfWatch};
 pub use racing::{Race, RaceWatch};
-pub use refused::{OwnFault, refuse, refuse_script, refuse_symbols};
-pub use replaying::replay;
-pub use telling::tell;
+pub use refused::OwnFault;
+pub use replaying::Replay;

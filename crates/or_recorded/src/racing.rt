@@ -11,8 +11,8 @@ ghost use Rattle.or_recorded.specs.Refused.{Fails};
 use crate::checked::Checked;
 use crate::command::{RecordedCommand, Texts};
 use crate::files::Files;
-use crate::refused::OwnFault;
-use or_elf::{SymFault, Symbols};
+use crate::refused::{OwnFault, read_symbols};
+use or_elf::Symbols;
 use or_race::Races;
 use or_replay::{Board, Placed, Refused, Watcher};
 use or_words::{Config, NoMemory};
@@ -134,10 +134,9 @@ fn symbols_for(alloc: Global, places: bool, image: &[u8]) -> Result<Option<Symbo
     if !places {
         return Ok(None);
     }
-    match Symbols::read(alloc, image) {
+    match read_symbols(alloc, image) {
         Ok(symbols) => Ok(Some(symbols)),
-        Err(SymFault::NoMemory) => Err(OwnFault::NoMemory),
-        Err(fault) => Err(OwnFault::Symbols(fault)),
+        Err(fault) => Err(fault),
     }
 }
 

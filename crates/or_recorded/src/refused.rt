@@ -1,21 +1,23 @@
 //! How a command ends on a recorded run that a check refuses.
-ghost use Rattle.std.specs.Prelude.{◌≡◌, Some};
+ghost use Rattle.std.specs.Prelude.{◌≡◌, ◌≤◌, None, MatchResult, length};
+ghost use Rattle.or_words.specs.declared.limits.TheConstants.{IMAGE_LIMIT};
+ghost use Rattle.or_elf.specs.Symbols.{symbols_of};
 ghost use Rattle.or_command.specs.Ends.{end_of, refused};
 ghost use Rattle.or_command.specs.Finishing.{end_of_check};
 ghost use Rattle.or_command_line.specs.Names.{recorded_names};
-ghost use Rattle.or_recorded.specs.Replay.{turn_detail, schedule_told, text_check, fault_check};
 ghost use Rattle.or_recorded.specs.Files.{names_of};
-ghost use Rattle.or_recorded.specs.Refused.{own_check, symbols_check, script_check};
+ghost use Rattle.or_recorded.specs.Refused.{turn_detail, schedule_told, text_check, fault_check, own_check, symbols_check, script_check, own_of_script, symbols_fault, Fails};
 ghost use Rattle.or_recorded.specs.Command.{told_check};
 
 use crate::checked::RunFault;
 use crate::files::Names;
 use or_command::{Outcome, Refusal, ScheduleDetail};
 use or_command_line::Recorded;
-use or_elf::SymFault;
+use or_elf::{SymFault, Symbols};
 use or_replay::TurnFault;
 use or_sched::RecFault;
 use or_script::ScriptFault;
+use std::alloc::Global;
 
 /// The check of its own that a command finds to fail, behind all checks of a recorded run.
 #[derive(Clone, Copy)]
@@ -35,6 +37,31 @@ pub enum Fault {
     OfRun(RunFault),
     /// One of the command's own.
     Own(OwnFault),
+}
+
+/// The image's symbols. Errors: their fault; NoMemory.
+pub(crate) fn read_symbols(alloc: Global, image: &[u8]) -> Result<Symbols, OwnFault>
+    requires long { 52 ≤ length image.now }
+    requires short { length image.now ≤ IMAGE_LIMIT }
+    ensures { MatchResult result
+        (λ symbols. (symbols_fault image.now ≡ None) × (symbols ≡ symbols_of image.now))
+        (λ own. Fails own (symbols_fault image.now)) }
+{
+    match Symbols::read(alloc, image) {
+        Ok(symbols) => Ok(symbols),
+        Err(SymFault::NoMemory) => Err(OwnFault::NoMemory),
+        Err(fault) => Err(OwnFault::Symbols(fault)),
+    }
+}
+
+/// A fault of a script, as a check of the command's own.
+pub(crate) fn of_script(fault: ScriptFault) -> OwnFault
+    ensures { result ≡ own_of_script fault }
+{
+    match fault {
+        ScriptFault::NoMemory => OwnFault::NoMemory,
+        fault => OwnFault::Script(fault),
+    }
 }
 
 /// The end of a command whose first check that fails is this.
@@ -60,8 +87,8 @@ fn refuse_own<'a>(names: &Names<'a>, fault: OwnFault) -> Outcome<'a>
     }
 }
 
-/// The end of a command on an image whose symbols have this fault: NoMemory, or a refusal with status 12.
-pub fn refuse_symbols(name: &str, fault: SymFault) -> Outcome<'_>
+// The end of a command on an image whose symbols have this fault: NoMemory, or a refusal with status 12.
+fn refuse_symbols(name: &str, fault: SymFault) -> Outcome<'_>
     ensures { end_of result ≡ end_of_check (symbols_check name.now fault) }
 {
     if fault == SymFault::NoMemory {
@@ -75,8 +102,8 @@ pub fn refuse_symbols(name: &str, fault: SymFault) -> Outcome<'_>
     })
 }
 
-/// The end of a command on a script that has this fault: NoMemory, or a refusal with status 10.
-pub fn refuse_script(name: &str, fault: ScriptFault) -> Outcome<'_>
+// The end of a command on a script that has this fault: NoMemory, or a refusal with status 10.
+fn refuse_script(name: &str, fault: ScriptFault) -> Outcome<'_>
     ensures { end_of result ≡ end_of_check (script_check name.now fault) }
 {
     match fault {
@@ -96,9 +123,9 @@ pub fn refuse_script(name: &str, fault: ScriptFault) -> Outcome<'_>
     }
 }
 
-/// The end of a command on a recorded run whose first check that fails is this: NoMemory, or a refusal with status 4 or, for
-/// a fault of the image, 3.
-pub fn refuse<'a>(files: &Recorded<'a>, fault: RunFault) -> Outcome<'a>
+// The end of a command on a recorded run whose first check that fails is this: NoMemory, or a refusal with status 4 or, for
+// a fault of the image, 3.
+fn refuse<'a>(files: &Recorded<'a>, fault: RunFault) -> Outcome<'a>
     ensures { end_of result ≡ end_of_check (fault_check (recorded_names files.now) fault) }
 {
     match fault {

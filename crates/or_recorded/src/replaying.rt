@@ -1,114 +1,72 @@
-//! The command `replay`.
-ghost use Rattle.std.specs.Prelude.{◌≡◌, ◌≤◌, [], ◌∷◌, ℕ, List, IfOk, length};
-ghost use Rattle.or_words.specs.declared.limits.TheConstants.{IMAGE_LIMIT};
-ghost use Rattle.or_host.specs.HostState.{HostState};
-ghost use Rattle.or_host.specs.Calls.{IsName};
-ghost use Rattle.or_command.specs.Leaves.{Silent};
-ghost use Rattle.or_command.specs.Ends.{end_of};
-ghost use Rattle.or_command.specs.Finishing.{WriteEnds, GoesOn, IfNoMemory};
-ghost use Rattle.or_command.specs.Outcomes.{OutcomeBy};
-ghost use Rattle.or_command.specs.Loads.{bytes_of};
-ghost use Rattle.or_command_line.specs.Names.{recorded_names, AreRecorded, IsReport};
-ghost use Rattle.or_command_image.specs.Loaded.{RecordedBytes};
+//! The command `replay`: the report of a recorded run, and its console.
+ghost use Rattle.std.specs.Prelude.{IfOk};
 ghost use Rattle.or_recorded.specs.Checked.{IsRunChecked};
-ghost use Rattle.or_recorded.specs.Replay.{replay_loads, bytes_in, RecordedVerdict, FilesRunShort, ReplayLacks, IsReplayed, ReplayWrites};
+ghost use Rattle.or_recorded.specs.Command.{run_of};
+ghost use Rattle.or_recorded.specs.Files.{bytes_of_files};
+ghost use Rattle.or_recorded.specs.Replay.{IsReplayed};
 
-use crate::checked::{Checked, check};
-use crate::refused::refuse;
-use or_command::{LoadStop, Loaded, Outcome, Output, write_outputs};
-use or_command_image::{load_recorded, recorded_in};
-use or_command_line::Recorded;
-use or_host::Host;
-use or_replay::report;
-use or_words::NoMemory;
+use crate::checked::Checked;
+use crate::command::{RecordedCommand, Texts};
+use crate::files::Files;
+use crate::refused::OwnFault;
+use or_replay::{Unwatched, report};
+use or_words::{Config, NoMemory};
 use std::alloc::Global;
 
-// What a replay writes.
-#[derive(Drop)]
-struct ReplayTexts {
-    report: Vec<u8>,
-    console: Vec<u8>,
+/// `replay`: follows a recorded run to its end, and writes its report and its console.
+#[derive(Clone, Copy)]
+pub struct Replay;
+
+impl RecordedCommand for Replay {
+    type Watch = Unwatched;
+
+    ghost use Rattle.or_recorded.specs.Replay.{replay_fault, IsReplayed};
+
+    ghost fault = { λ _. replay_fault };
+
+    ghost Makes = { λ _. IsReplayed };
+
+    fn begin(
+        &self,
+        alloc: Global,
+        files: Files<'_>,
+        config: &Config,
+    ) -> Result<Unwatched, NoMemory> {
+        let _ = alloc;
+        let _ = files;
+        let _ = config;
+        Ok(Unwatched)
+    }
+
+    fn make(
+        &self,
+        alloc: Global,
+        files: Files<'_>,
+        run: Checked,
+        watch: Unwatched,
+    ) -> Result<Texts, OwnFault> {
+        let _ = watch;
+        match texts(alloc, files, run) {
+            Ok(texts) => Ok(texts),
+            Err(_) => Err(OwnFault::NoMemory),
+        }
+    }
 }
 
 // The texts of a recorded run.
 #[tactic(auto, using(crate::proofs::Replayed::replayed))]
-fn texts(alloc: Global, run: Checked) -> Result<ReplayTexts, NoMemory>
-    ensures { IfOk result (λ texts. (bytes : RecordedBytes) → IsRunChecked bytes.image bytes.input bytes.recording run
-        → IsReplayed bytes texts.report.items texts.console.items) }
+fn texts(alloc: Global, files: Files<'_>, run: Checked) -> Result<Texts, NoMemory>
+    requires { IsRunChecked files.image.now files.input.now files.recording.now run }
+    ensures { IfOk result (λ texts. IsReplayed (run_of (bytes_of_files files.entry) run.recording) texts.report.items texts.console.items) }
 {
+    let _ = files;
     let Checked { recording, board } = run;
     let (cores, bus) = board.into_parts();
     let mut text = Vec::new(alloc);
     let turns = recording.turns.len() as u64;
     let console = report(alloc, cores.as_slice(), bus, turns, &mut text)?;
-    Ok(ReplayTexts {
+    Ok(Texts {
         report: text,
         console,
     })
-}
-
-// Writes the texts.
-fn write<'a, H: Host>(report: &'a str, texts: &ReplayTexts, host: &mut H) -> Outcome<'a>
-    requires name { IsName report.now }
-    ensures outcome { WriteEnds (record { name = report.now; text = texts.now.report.items } ∷ []) texts.now.console.items (end_of result) (H.state host.old) (H.state host.new) }
-    ensures silent { Silent (H.state host.old) (H.state host.new) }
-{
-    let output = Output {
-        name: report,
-        text: texts.report.as_slice(),
-    };
-    write_outputs(host, &[output], texts.console.as_slice())
-}
-
-// How a replay of files that were loaded ends.
-fn finish<'a, H: Host>(
-    alloc: Global,
-    names: &Recorded<'a>,
-    report: &'a str,
-    files: &[Vec<u8>],
-    host: &mut H,
-) -> Outcome<'a>
-    requires name { IsName report.now }
-    requires limit { length (bytes_in (recorded_names names.now) (bytes_of files.now)).image ≤ IMAGE_LIMIT }
-    ensures outcome { GoesOn (RecordedVerdict (recorded_names names.now)) (ReplayWrites (recorded_names names.now) report.now) (bytes_of files.now) (end_of result) (H.state host.old) (H.state host.new) }
-    ensures passed { IfNoMemory (end_of result) (FilesRunShort (recorded_names names.now) (bytes_of files.now)) }
-    ensures silent { Silent (H.state host.old) (H.state host.new) }
-{
-    match check(alloc, recorded_in(names.input, files)) {
-        Ok(run) => match texts(alloc, run) {
-            Ok(texts) => write(report, &texts, host),
-            Err(_) => Outcome::NoMemory,
-        },
-        Err(fault) => refuse(names, fault),
-    }
-}
-
-/// Replays a recorded run: loads the image, the input and the recording, checks them, follows the turns, and writes the
-/// report and the console.
-pub fn replay<'a, H: Host>(
-    alloc: Global,
-    names: &Recorded<'a>,
-    report: &'a str,
-    host: &mut H,
-) -> Outcome<'a>
-    requires names { AreRecorded (recorded_names names.now) }
-    requires report { IsReport (recorded_names names.now) report.now }
-    ensures outcome { OutcomeBy (replay_loads (recorded_names names.now)) (RecordedVerdict (recorded_names names.now)) (ReplayWrites (recorded_names names.now) report.now) (ReplayLacks (recorded_names names.now))
-        (end_of result) (H.state host.old) (H.state host.new) }
-    ensures silent { Silent (H.state host.old) (H.state host.new) }
-{
-    let mut files = Loaded::new_in(alloc);
-    match load_recorded(
-        alloc,
-        host,
-        names.image,
-        names.input,
-        names.schedule,
-        &mut files,
-    ) {
-        Ok(()) => finish(alloc, names, report, files.as_slice(), host),
-        Err(LoadStop::Unread(name)) => Outcome::Unread(name),
-        Err(LoadStop::TooLong(name, limit)) => Outcome::TooLong(name, limit),
-        Err(LoadStop::NoMemory) => Outcome::NoMemory,
-    }
 }

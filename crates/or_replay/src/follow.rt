@@ -32,6 +32,9 @@ pub trait Watcher {
     /// It has seen so many turns of a schedule, which lead from a board to these cores and this bus.
     ghost Sees: { Self → BoardModel → List ℕ → ℕ → List CoreModel → BusState → Type 0 };
 
+    /// It has this of an image from before the first turn, and keeps it; nothing if not said.
+    ghost Keeps: { Self → List ℕ → Type 0 } = { λ _ image. Unit {0} };
+
     /// Makes the turn at a place of a schedule, from 0, as `Board::turn` does, with the same refusals. It has seen those before.
     fn watch(&mut self, board: &mut Board, turns: &[u8], place: usize) -> Result<(), Refused>
         requires inside { place < length turns.now }
@@ -42,7 +45,8 @@ pub trait Watcher {
         ensures why { RefusedBy board.old.cores (slice_index turns.now place) result }
         ensures config { board.new.config ≡ board.old.config }
         ensures seen { OnOk result ((start : BoardModel) → Sees self.old start turns.now place board.old.cores board.old.bus
-            → Sees self.new start turns.now (place + 1) board.new.cores board.new.bus) };
+            → Sees self.new start turns.now (place + 1) board.new.cores board.new.bus) }
+        ensures kept { (image : List ℕ) → Keeps self.old image → Keeps self.new image };
 }
 
 /// Keeps nothing of the turns.
@@ -92,6 +96,7 @@ impl Board {
         ensures config { self.new.config ≡ self.old.config }
         ensures seen { OnOk result ((start : BoardModel) → W.Sees watcher.old start turns.now 0 self.old.cores self.old.bus
             → W.Sees watcher.new start turns.now (length turns.now) self.new.cores self.new.bus) }
+        ensures kept { (image : List ℕ) → W.Keeps watcher.old image → W.Keeps watcher.new image }
     {
         follow_blocks(self, turns, marks, BLOCK, watcher)
     }
@@ -112,6 +117,7 @@ fn follow_blocks<W: Watcher>(
     ensures config { board.new.config ≡ board.old.config }
     ensures seen { OnOk result ((start : BoardModel) → W.Sees watcher.old start turns.now 0 board.old.cores board.old.bus
         → W.Sees watcher.new start turns.now (length turns.now) board.new.cores board.new.bus) }
+    ensures kept { (image : List ℕ) → W.Keeps watcher.old image → W.Keeps watcher.new image }
 {
     for place in 0..turns.len() {
         match advance(board, turns, place, marks, block, watcher) {
@@ -145,6 +151,7 @@ fn advance<W: Watcher>(
     ensures config { board.new.config ≡ board.old.config }
     ensures seen { OnOk result ((start : BoardModel) → W.Sees watcher.old start turns.now place board.old.cores board.old.bus
         → W.Sees watcher.new start turns.now (place + 1) board.new.cores board.new.bus) }
+    ensures kept { (image : List ℕ) → W.Keeps watcher.old image → W.Keeps watcher.new image }
 {
     match watcher.watch(board, turns, place) {
         Ok(()) => compare(marks, place + 1, block, board.mark()),

@@ -1,9 +1,6 @@
-use Rattle.or_command_line.specs.Names.{recorded_names}
-use Rattle.or_recorded.specs.Replay.{bytes_in}
+use Rattle.or_recorded.specs.Files.{names_of}
 use Rattle.or_recorded.proofs.Verdicts.{one_verdict}
 use Rattle.or_recorded.proofs.laws.files_have_one_verdict.Goals as goal
 
 pub returns : goal.returns
-returns c = λ files found other is also.
-    let names = recorded_names c.args.names.now in
-    one_verdict names (bytes_in names files) found other is also
+returns g c = one_verdict (g.C.RecordedCommand.fault c.args.command.now) (g.C.RecordedCommand.Makes c.args.command.now) (names_of c.args.names.now)

@@ -1,4 +1,4 @@
-use Rattle.std.proofs.Common.{◌≡◌}
+use Rattle.std.proofs.Common.{◌≡◌, ℕ, List}
 use Rattle.or_model.specs.Turn.{Board}
 use Rattle.or_replay.specs.Board.{IsBoard}
 use Rattle.or_replay.specs.Following.{IsLed}
@@ -11,4 +11,5 @@ invariant-loop-place g l = record {
   config : l.board.config ≡ l.fn.board.config;
   some : (start : Board) × g.W.Watcher.Sees l.watcher start l.turns l.place l.board.cores l.board.bus;
   seen : (start : Board) → g.W.Watcher.Sees l.fn.watcher start l.turns 0 l.fn.board.cores l.fn.board.bus → g.W.Watcher.Sees l.watcher start l.turns l.place l.board.cores l.board.bus;
+  kept : (image : List ℕ) → g.W.Watcher.Keeps l.fn.watcher image → g.W.Watcher.Keeps l.watcher image;
 }

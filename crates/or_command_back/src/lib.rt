@@ -1,7 +1,0 @@
-//! The command `back`.
-#![tactic(auto)]
-
-mod going_back;
-pub mod laws;
-
-pub use going_back::back;

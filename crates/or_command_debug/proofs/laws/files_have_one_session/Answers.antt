@@ -1,6 +1,0 @@
-use Rattle.or_command_line.specs.Names.{recorded_names}
-use Rattle.or_command_debug.proofs.Verdicts.{one_session}
-use Rattle.or_command_debug.proofs.laws.files_have_one_session.Goals as goal
-
-pub returns : goal.returns
-returns c = one_session (recorded_names c.args.names.now)

@@ -1,6 +1,0 @@
-use Rattle.or_command_line.specs.Names.{recorded_names}
-use Rattle.or_command_prof.proofs.Verdicts.{one_profile}
-use Rattle.or_command_prof.proofs.laws.files_have_one_profile.Goals as goal
-
-pub returns : goal.returns
-returns c = one_profile (recorded_names c.args.names.now)

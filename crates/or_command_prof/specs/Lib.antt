@@ -1,3 +1,0 @@
-pub mod Level
-pub mod Prof
-pub mod Traces
