@@ -6,7 +6,7 @@ use std::{fs, io};
 
 // `/dev/full` opens, and no byte can be written to it. A read of `/proc/self/pagemap` fails if its length is no multiple of
 // eight, as the last one up to the limit of an input is: one byte, behind a mebibyte that was read.
-pub(crate) const EDGES: [Line; 19] = [
+pub(crate) const EDGES: [Line; 22] = [
     Refused("run . - s r --ram 1"),
     Refused("run hello.elf . s r --ram 1"),
     Refused("run hello.elf /proc/self/pagemap s r --ram 1"),
@@ -28,9 +28,15 @@ pub(crate) const EDGES: [Line; 19] = [
     Command("replay long.elf - s again.rep"),
     Same("again.rep", "r"),
     Refused("run long.elf - s r --ram 1"),
+    // 800003 steps among 200001 functions: a search of all of them at each step would take longer than a program may
+    Command("asm labels.s labels.elf --symbols"),
+    Command("run labels.elf - s r --ram 1"),
+    Command("prof labels.elf - s"),
 ];
 
 const WORDS: usize = 270_000;
+
+const LABELS: u32 = 200_000;
 
 /// Writes `long.s`: 270000 instructions that do nothing, and a byte for the console.
 pub(crate) fn write_long_source(rt: &HostRuntime) -> io::Result<()> {
@@ -39,5 +45,16 @@ pub(crate) fn write_long_source(rt: &HostRuntime) -> io::Result<()> {
         file.write_all(b"l.nop 0\n")?;
     }
     file.write_all(b"l.movhi r3,0x9000\nl.addi r4,r0,76\nl.sb 0(r3),r4\nl.nop 1\n")?;
+    file.flush()
+}
+
+/// Writes `labels.s`: a loop of four instructions that is passed 200000 times, and behind it 200000 labels.
+pub(crate) fn write_labels(rt: &HostRuntime) -> io::Result<()> {
+    let mut file = BufWriter::new(rt.alloc(), fs::create(rt, "labels.s")?)?;
+    file.write_all(b"l.movhi r3,3\nl.ori r3,r3,3392\nloop:\n")?;
+    file.write_all(b"l.addi r3,r3,-1\nl.sfne r3,r0\nl.bf loop\nl.nop 0\nl.nop 1\n")?;
+    for label in 0..LABELS {
+        write!(file, "f{label}:\nl.nop 0\n")?;
+    }
     file.flush()
 }

@@ -5,7 +5,7 @@
 
 mod edges;
 
-use edges::{EDGES, write_long_source};
+use edges::{EDGES, write_labels, write_long_source};
 use or_cli::{FileHost, Host, OpenGate, top};
 use std::alloc::{AllocError, Global};
 use std::fs;
@@ -188,7 +188,7 @@ fn main(rt: HostRuntime) -> ExitCode {
     if status != 0 {
         return ExitCode::from(status);
     }
-    if write_long_source(&rt).is_err() {
+    if write_long_source(&rt).is_err() || write_labels(&rt).is_err() {
         return ExitCode::from(6);
     }
     ExitCode::from(make_all(&rt, &rt, &EDGES))
