@@ -4,7 +4,7 @@ use Rattle.std.proofs.lemmas.List.{drop-append-le, drop_all, flat_map_more}
 use Rattle.or_model.specs.Turn.{Board}
 use Rattle.or_debug.specs.declared.turns.MadeTurn.{MadeTurn}
 use Rattle.or_debug.specs.Turns.{turn_made, turns_made, last_of}
-use Rattle.or_debug.specs.Shown.{made_line, made_text}
+use Rattle.or_debug.specs.BoardText.{made_line, made_text}
 use Rattle.or_debug.proofs.Following.{turns_longer}
 
 length_made : (start : Board) (turns : List ℕ) (n : ℕ) → length (turns_made start turns n) ≡ n

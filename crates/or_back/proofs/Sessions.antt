@@ -8,7 +8,7 @@ use Rattle.or_model.specs.Turn.{Board}
 use Rattle.or_debug.specs.declared.stops.Stops.{Stops}
 use Rattle.or_replay.specs.Board.{IsBoard}
 use Rattle.or_debug.specs.Turns.{after, turns_made, last_of}
-use Rattle.or_debug.specs.Shown.{made_text}
+use Rattle.or_debug.specs.BoardText.{made_text}
 use Rattle.or_debug.proofs.Seen.{ram_behind, seen_behind}
 use Rattle.or_debug.specs.Points.{Points, no_points, with_watch, with_store}
 use Rattle.or_debug.specs.Hits.{ram_in}

@@ -6,7 +6,7 @@ ghost use Rattle.or_script.specs.declared.command.Command.TheVariants.{Go};
 ghost use Rattle.or_debug.specs.Turns.{turn_made, turns_made, last_of};
 ghost use Rattle.or_debug.specs.Points.{Points};
 ghost use Rattle.or_debug.specs.Hits.{hit_lines};
-ghost use Rattle.or_debug.specs.Shown.{made_line, made_text};
+ghost use Rattle.or_debug.specs.BoardText.{made_line, made_text};
 ghost use Rattle.or_debug.specs.Standing.{points_of};
 ghost use Rattle.or_back.specs.declared.lines.BackCommand.TheVariants.{Plain, GoBack};
 ghost use Rattle.or_back.specs.Session.{last_hit, hit_before};

@@ -14,12 +14,12 @@ use Rattle.or_replay.proofs.Schedules.{start_marks, some_turn}
 use Rattle.or_turn.specs.declared.view.Settings.{Settings}
 use Rattle.or_turn.specs.declared.view.View.{View}
 use Rattle.or_turn.specs.declared.shared.Closed.{Closed}
-use Rattle.or_turn.specs.declared.unit.Unit.{Unit as Piece}
+use Rattle.or_turn.specs.declared.unit.TurnUnit.{TurnUnit}
 use Rattle.or_turn.specs.Schedules.{first_board, core_at, count, IsDefined, board_of}
 use Rattle.or_turn.specs.Rule as rule
 use Rattle.or_turn.specs.Rule.{longer}
 use Rattle.or_turn.specs.Told.{both_view}
-use Rattle.or_turn.specs.Shown.{core_of}
+use Rattle.or_turn.specs.SeatViews.{core_of}
 use Rattle.or_turn.specs.Units.{view, begun, Fresh}
 use Rattle.or_turn.specs.Ends.{IsClosedBy}
 use Rattle.or_turn.proofs.Lengths.{AllBelow}
@@ -30,7 +30,7 @@ use Rattle.or_turn.proofs.Joining.{longer_has}
 use Rattle.or_board.specs.Works.{Worked, Starts, HasFrom, IsThreadedRun}
 
 -- what the opening gives may be worked
-pub fresh_starts : (z : TableId) (st : Settings) (n : ℕ) (u : Piece) → Fresh z st n u → n < st.config.cores → Starts z st n u
+pub fresh_starts : (z : TableId) (st : Settings) (n : ℕ) (u : TurnUnit) → Fresh z st n u → n < st.config.cores → Starts z st n u
 fresh_starts z st n u f h = record {
   works = record {
     of = f.of;
@@ -44,20 +44,20 @@ fresh_starts z st n u f h = record {
 }
 
 -- the last of a list, and the others
-last_is : (ys : List Piece) (u d : Piece) → get_or (ys ++ u ∷ []) (length ys) d ≡ u
+last_is : (ys : List TurnUnit) (u d : TurnUnit) → get_or (ys ++ u ∷ []) (length ys) d ≡ u
 last_is [] u d = refl
 last_is (y ∷ ys) u d = last_is ys u d
 
-others_are : (ys : List Piece) (u d : Piece) (n : ℕ) → n < length ys → get_or (ys ++ u ∷ []) n d ≡ get_or ys n d
+others_are : (ys : List TurnUnit) (u d : TurnUnit) (n : ℕ) → n < length ys → get_or (ys ++ u ∷ []) n d ≡ get_or ys n d
 others_are [] u d n h = absurd (omega arith)
 others_are (y ∷ ys) u d zero h = refl
 others_are (y ∷ ys) u d (suc n) h = others_are ys u d n (omega arith)
 
-pub popped : (P : ℕ → Piece → Type 0) (xs ys : List Piece) (u : Piece) → xs ≡ ys ++ u ∷ [] → ((n : ℕ) (d : Piece) → n < length ys + 1 → P n (get_or xs n d))
-    → ((n : ℕ) (d : Piece) → n < length ys → P n (get_or ys n d)) × P (length ys) u
+pub popped : (P : ℕ → TurnUnit → Type 0) (xs ys : List TurnUnit) (u : TurnUnit) → xs ≡ ys ++ u ∷ [] → ((n : ℕ) (d : TurnUnit) → n < length ys + 1 → P n (get_or xs n d))
+    → ((n : ℕ) (d : TurnUnit) → n < length ys → P n (get_or ys n d)) × P (length ys) u
 popped P xs ys u e all = (
-  (λ n d h. subst (P n) (ap (λ (l : List Piece). get_or l n d) e ∙ others_are ys u d n h) (all n d (omega arith))),
-  subst (P (length ys)) (ap (λ (l : List Piece). get_or l (length ys) u) e ∙ last_is ys u u) (all (length ys) u (omega arith)),
+  (λ n d h. subst (P n) (ap (λ (l : List TurnUnit). get_or l n d) e ∙ others_are ys u d n h) (all n d (omega arith))),
+  subst (P (length ys)) (ap (λ (l : List TurnUnit). get_or l (length ys) u) e ∙ last_is ys u u) (all (length ys) u (omega arith)),
 )
 
 has_one : (c : ℕ) (cores : List ℕ) → cores ≡ c ∷ [] → 0 < count c cores
@@ -70,10 +70,10 @@ only_one n c cores e h = count_one c n (subst (λ (l : List ℕ). 0 < count c l)
 abbrev Stops : View → ℕ → Type 0
 Stops v c = (core_of v c).stop ≡ None → ⊥
 
-only_stops : (z : TableId) (st : Settings) (n c : ℕ) (u : Piece) → Worked z st n u → 0 < count c (view u).cores → Stops (view u) c
+only_stops : (z : TableId) (st : Settings) (n c : ℕ) (u : TurnUnit) → Worked z st n u → 0 < count c (view u).cores → Stops (view u) c
 only_stops z st n c u w h = subst (Stops (view u)) (only_one n c (view u).cores w.works.cores_are h) w.stopped
 
-pub worked_has : (z : TableId) (st : Settings) (n : ℕ) (u : Piece) → Worked z st n u → n + 1 ≡ st.config.cores → HasFrom z st n u
+pub worked_has : (z : TableId) (st : Settings) (n : ℕ) (u : TurnUnit) → Worked z st n u → n + 1 ≡ st.config.cores → HasFrom z st n u
 worked_has z st n u w last = record {
   of = w.works.of;
   settings = w.works.settings;
@@ -90,7 +90,7 @@ core_moves st v u c a b defined first same = ap (λ (x : Settings). core_at (boa
 stops_on : (v u : View) (c : ℕ) → core_of v c ≡ core_of u c → Stops v c → Stops u c
 stops_on v u c same stops none = stops (ap (λ (k : Core). k.stop) same ∙ none)
 
-pub joined_has : (z : TableId) (st : Settings) (n : ℕ) (last unit new : Piece) → HasFrom z st (n + 1) last → Worked z st n unit → new.seat.table_id ≡ z → begun new ≡ None → view new ≡ both_view (view last) (view unit)
+pub joined_has : (z : TableId) (st : Settings) (n : ℕ) (last unit new : TurnUnit) → HasFrom z st (n + 1) last → Worked z st n unit → new.seat.table_id ≡ z → begun new ≡ None → view new ≡ both_view (view last) (view unit)
     → rule.Begins (view last).seen (view new).seen → rule.Begins (view unit).seen (view new).seen
     → ((c : ℕ) → 0 < count c (view last).cores → count c (view last).seen ≡ count c (view new).seen) → ((c : ℕ) → 0 < count c (view unit).cores → count c (view unit).seen ≡ count c (view new).seen) → HasFrom z st n new
 joined_has z st n last unit new l w of rests is first second told other =
@@ -122,7 +122,7 @@ all_of n (x ∷ xs) below zero d h = below.0
 all_of n (x ∷ xs) below (suc k) d h = all_of n xs below.1 k d (omega arith)
 
 -- the run that is closed by a unit which has every core, stopped
-module _ (z : TableId) (st : Settings) (fits : Fits st.config) (last : Piece) (end : Closed) (l : HasFrom z st 0 last) (e : IsClosedBy (view last) end) where
+module _ (z : TableId) (st : Settings) (fits : Fits st.config) (last : TurnUnit) (end : Closed) (l : HasFrom z st 0 last) (e : IsClosedBy (view last) end) where
   abbrev v : View
   v = view last
 

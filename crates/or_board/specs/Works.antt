@@ -6,13 +6,13 @@ use Rattle.or_replay.specs.Board.{IsBoard, all_stopped}
 use Rattle.or_replay.specs.Marks.{marks}
 use Rattle.or_turn.specs.declared.view.Settings.{Settings}
 use Rattle.or_turn.specs.declared.shared.Closed.{Closed}
-use Rattle.or_turn.specs.declared.unit.Unit.{Unit as Piece}
+use Rattle.or_turn.specs.declared.unit.TurnUnit.{TurnUnit}
 use Rattle.or_turn.specs.Schedules.{IsDefined, count}
-use Rattle.or_turn.specs.Shown.{core_of}
+use Rattle.or_turn.specs.SeatViews.{core_of}
 use Rattle.or_turn.specs.Units.{view, begun}
 
 -- the unit of core n, between two turns
-pub record Works (z : TableId) (st : Settings) (n : ℕ) (u : Piece) : Type 0 where
+pub record Works (z : TableId) (st : Settings) (n : ℕ) (u : TurnUnit) : Type 0 where
   pub of : u.seat.table_id ≡ z
   pub settings : (view u).settings ≡ st
   pub cores_are : (view u).cores ≡ n ∷ []
@@ -20,18 +20,18 @@ pub record Works (z : TableId) (st : Settings) (n : ℕ) (u : Piece) : Type 0 wh
   pub defined : IsDefined st (view u).seen
 
 -- the same before its first turn
-pub record Starts (z : TableId) (st : Settings) (n : ℕ) (u : Piece) : Type 0 where
+pub record Starts (z : TableId) (st : Settings) (n : ℕ) (u : TurnUnit) : Type 0 where
   pub works : Works z st n u
   pub none : count n (view u).seen ≡ 0
   pub below : n < st.config.cores
 
 -- the same, and the core has stopped
-pub record Worked (z : TableId) (st : Settings) (n : ℕ) (u : Piece) : Type 0 where
+pub record Worked (z : TableId) (st : Settings) (n : ℕ) (u : TurnUnit) : Type 0 where
   pub works : Works z st n u
   pub stopped : (core_of (view u) n).stop ≡ None → ⊥
 
 -- a unit that has the cores from n on, each of which has stopped
-pub record HasFrom (z : TableId) (st : Settings) (n : ℕ) (u : Piece) : Type 0 where
+pub record HasFrom (z : TableId) (st : Settings) (n : ℕ) (u : TurnUnit) : Type 0 where
   pub of : u.seat.table_id ≡ z
   pub settings : (view u).settings ≡ st
   pub rests : begun u ≡ None

@@ -9,7 +9,7 @@ use crate::workers::work_unit;
 use crate::{Gate, OpenGate, run};
 use or_core::Stop;
 use or_replay::{Board, report};
-use or_turn::{Closed, Shared, Unit};
+use or_turn::{Closed, Shared, TurnUnit};
 use or_words::Config;
 use std::alloc::Global;
 use std::sync::Wait;
@@ -138,7 +138,7 @@ fn both_ends(
 }
 
 // Makes turns of a unit until its core has stopped.
-fn until_stop<R: Wait>(rt: &R, shared: &Shared, mut unit: Unit, number: u32) -> Unit
+fn until_stop<R: Wait>(rt: &R, shared: &Shared, mut unit: TurnUnit, number: u32) -> TurnUnit
     requires fits { Fits (settings_in shared.now).config }
     requires starts { Starts (id_of shared.now) (settings_in shared.now) number unit }
     ensures { Worked (id_of shared.now) (settings_in shared.now) number result }
@@ -168,11 +168,11 @@ fn two_callers<R: Threads + Wait + Sync>(
     let first = units.pop().unwrap();
     let (first, mut last) = join(
         rt,
-        || -> Unit
+        || -> TurnUnit
             requires { Fits (settings_in shared).config × Starts (id_of shared) (settings_in shared) 0 first }
             ensures { Worked (id_of shared) (settings_in shared) 0 result }
         { until_stop(rt, &shared, first, 0) },
-        || -> Unit
+        || -> TurnUnit
             requires { Fits (settings_in shared).config × Starts (id_of shared) (settings_in shared) 1 second }
             ensures { Worked (id_of shared) (settings_in shared) 1 result }
         { until_stop(rt, &shared, second, 1) },

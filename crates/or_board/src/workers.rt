@@ -8,13 +8,13 @@ ghost use Rattle.or_replay.specs.Start.{start};
 ghost use Rattle.or_replay.specs.Board.{AreOfBus};
 ghost use Rattle.or_replay.specs.Opening.{FailsToOpen};
 ghost use Rattle.or_turn.specs.Schedules.{first_board};
-ghost use Rattle.or_turn.specs.Shown.{only_of};
+ghost use Rattle.or_turn.specs.SeatViews.{only_of};
 ghost use Rattle.or_turn.specs.Units.{view, settings_in, id_of, AreOpened};
 ghost use Rattle.or_board.specs.Works.{Starts, Worked, HasFrom, IsThreadedRun};
 
 use crate::gate::Gate;
 use or_replay::OpenFault;
-use or_turn::{Closed, Shared, Unit};
+use or_turn::{Closed, Shared, TurnUnit};
 use or_words::Config;
 use std::alloc::Global;
 use std::sync::Wait;
@@ -39,7 +39,7 @@ fn most_turns<G: Gate>(stay: u32, gate: &G) -> u32
 pub(crate) fn work_unit<R: Wait, G: Gate>(
     rt: &R,
     shared: &Shared,
-    unit: &mut Unit,
+    unit: &mut TurnUnit,
     stay: u32,
     gate: &G,
 )
@@ -63,7 +63,7 @@ pub(crate) fn work_unit<R: Wait, G: Gate>(
 fn work_all<R: Threads + Wait + Sync, G: Gate + Sync>(
     rt: &R,
     shared: &Shared,
-    units: &mut [Unit],
+    units: &mut [TurnUnit],
     stay: u32,
     gate: &G,
 )
@@ -73,7 +73,7 @@ fn work_all<R: Threads + Wait + Sync, G: Gate + Sync>(
     ensures { (n : ℕ) (d : _) → n < length units.old → Worked (id_of shared.now) (settings_in shared.now) n (slice_index_or units.new n d) }
 {
     let threads = units.len().max(1);
-    let one = |number: usize, unit: &mut Unit|
+    let one = |number: usize, unit: &mut TurnUnit|
         requires { (1 ≤ stay) × Fits (settings_in shared.now).config × Starts (id_of shared.now) (settings_in shared.now) number unit.now }
         ensures { Worked (id_of shared.entry.now) (settings_in shared.entry.now) number unit.exit.now }
     { work_unit(rt, shared, unit, stay, gate) };
@@ -81,7 +81,7 @@ fn work_all<R: Threads + Wait + Sync, G: Gate + Sync>(
 }
 
 // Puts all units together.
-fn join_all(shared: &Shared, mut units: Vec<Unit>) -> Unit
+fn join_all(shared: &Shared, mut units: Vec<TurnUnit>) -> TurnUnit
     requires some { (0 < vec_len units) × (vec_len units ≡ (settings_in shared.now).config.cores) }
     requires worked { (n : ℕ) (d : _) → n < vec_len units → Worked (id_of shared.now) (settings_in shared.now) n (slice_index_or units.items n d) }
     ensures { HasFrom (id_of shared.now) (settings_in shared.now) 0 result }
@@ -113,7 +113,7 @@ fn looks_for<R: Threads>(rt: &R, threads: usize) -> u32 {
 pub fn work<R: Threads + Wait + Sync, G: Gate + Sync>(
     rt: &R,
     mut shared: Shared,
-    mut units: Vec<Unit>,
+    mut units: Vec<TurnUnit>,
     stay: u32,
     gate: &G,
 ) -> Closed

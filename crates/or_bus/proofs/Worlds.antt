@@ -9,14 +9,14 @@ use Rattle.or_words.specs.declared.Width.{Width}
 use Rattle.or_parts.specs.declared.Line.{Line}
 use Rattle.or_parts.specs.Memory.{stored, bytes_of, word_address}
 use Rattle.or_parts.specs.Lines.{index_of, line_of, line_at_index, line_bytes, no_lines, held_word, line_filled, line_dropped}
-use Rattle.or_parts.specs.Reservation.{Mark, stands_by}
+use Rattle.or_parts.specs.Reservation.{ReservationMark, stands_by}
 use Rattle.or_parts.specs.Devices.{Devices, reset_devices, served_cores}
 use Rattle.or_model.specs.declared.Counts.{Counts}
 use Rattle.or_model.specs.World.{World, Access, after_load, after_store, after_drop, marked, unmarked, new_world, stands}
 use Rattle.or_model.specs.World.Kind.{Loads}
 use Rattle.or_model.specs.Caches.{held}
 use Rattle.or_mem.specs.Caches.{cache_of, address_and_bytes}
-use Rattle.or_resv.specs.Slots.{is_for, after_write}
+use Rattle.or_reservations.specs.Slots.{is_for, after_write}
 use Rattle.or_bus.specs.State.{BusState, counted_up, counts_of, no_counts, with_read, with_hit, with_miss}
 use Rattle.or_bus.specs.Lines.{is_line, holds, IsLineTold}
 use Rattle.or_bus.specs.Coherence.{IsLineOf, IsCoherent, IsSound, AreSound}
@@ -246,12 +246,12 @@ track_store bus new world d pa v width cached known aligned sound change is =
 
 -- MARKS
 
-abbrev place_in : Option Mark → ℕ
+abbrev place_in : Option ReservationMark → ℕ
 place_in None = 0
 place_in (Some mark) = mark.1
 
 -- core d's mark and slot change together
-marks_change : (bus : BusState) (world : World) (d : ℕ) (mark : Option Mark) (slot : Option ℕ) → d < bus.cores → IsSound bus → Represents bus world
+marks_change : (bus : BusState) (world : World) (d : ℕ) (mark : Option ReservationMark) (slot : Option ℕ) → d < bus.cores → IsSound bus → Represents bus world
     → ((w k : ℕ) → mark ≡ Some (w, k) → k ≤ length world.writes) → IsSlotOf world.writes mark slot
     → Represents (record bus { slots = slice_set bus.slots d slot }) (record world { marks = slice_set world.marks d mark })
 unfolding stands

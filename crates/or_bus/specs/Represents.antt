@@ -4,7 +4,7 @@ use Rattle.or_model.specs.World.{World, IsValid, stands}
 use Rattle.or_model.specs.Caches.{held, hits, misses}
 use Rattle.or_mem.specs.Memory.{last_count}
 use Rattle.or_mem.specs.Caches.{cache_of}
-use Rattle.or_resv.specs.Slots.{is_reserved}
+use Rattle.or_reservations.specs.Slots.{is_reserved}
 use Rattle.or_bus.specs.State.{BusState, counts_of}
 use Rattle.or_bus.specs.Lines.{holds}
 use Rattle.or_bus.specs.Coherence.{IsCoherent}

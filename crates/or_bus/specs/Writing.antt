@@ -5,7 +5,7 @@ use Rattle.or_parts.specs.declared.Line.{Line}
 use Rattle.or_parts.specs.Memory.{stored, word_address}
 use Rattle.or_parts.specs.Lines.{line_dropped}
 use Rattle.or_mem.specs.Caches.{cache_of, line_updated}
-use Rattle.or_resv.specs.Slots.{after_write}
+use Rattle.or_reservations.specs.Slots.{after_write}
 use Rattle.or_bus.specs.State.{BusState, counted_up}
 
 -- the storing core's lines: a cached store updates the line, and another drops it

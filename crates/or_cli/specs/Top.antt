@@ -1,8 +1,8 @@
 -- What the top call says of each command.
 use Rattle.std.specs.Prelude.{ℕ, List, Bool, true, false, Option, Some, None, if◌then◌else◌}
 use Rattle.or_host.specs.HostState.{HostState}
-use Rattle.or_command_line.specs.Command.{Shown, command_of}
-use Rattle.or_command_line.specs.Command.Shown.{run, hunt, replay, asm, dis, debug, gen, bench, back, race, prof}
+use Rattle.or_command_line.specs.Command.{CommandModel, command_of}
+use Rattle.or_command_line.specs.Command.CommandModel.{run, hunt, replay, asm, dis, debug, gen, bench, back, race, prof}
 use Rattle.or_command_line.specs.Usage.{usage_sentence}
 use Rattle.or_command.specs.Lines.{usage_lines}
 use Rattle.or_command.specs.Loads.{Load}
@@ -27,24 +27,24 @@ use Rattle.or_command_hunt.specs.Hunt.{HuntAnswers, HuntDecided}
 use Rattle.or_command_run.specs.Bench.{bench_loads, bench_check, BenchWrites}
 
 -- the commands that work cores on threads, and so wait
-abbrev pub is_threaded : Shown → Bool
+abbrev pub is_threaded : CommandModel → Bool
 is_threaded (run names options) = true
 is_threaded (bench workload schedule stay) = true
 is_threaded _ = false
 
-abbrev pub of_threads : Option Shown → Option Shown
+abbrev pub of_threads : Option CommandModel → Option CommandModel
 of_threads None = None
 of_threads (Some command) = if is_threaded command then Some command else None
 
-abbrev pub of_one_thread : Option Shown → Option Shown
+abbrev pub of_one_thread : Option CommandModel → Option CommandModel
 of_one_thread None = None
 of_one_thread (Some command) = if is_threaded command then None else Some command
 
 -- the command of a command line, if it runs cores on threads, and if it does not
-abbrev pub threaded_command : List (List ℕ) → Option Shown
+abbrev pub threaded_command : List (List ℕ) → Option CommandModel
 threaded_command words = of_threads (command_of words)
 
-abbrev pub lone_command : List (List ℕ) → Option Shown
+abbrev pub lone_command : List (List ℕ) → Option CommandModel
 lone_command words = of_one_thread (command_of words)
 
 -- the command line is not valid: that and why is said, and nothing else happens
@@ -66,7 +66,7 @@ abbrev pub on_a_run : (Run → Option OwnFault) → (Run → List ℕ → List �
 on_a_run fault Makes names = judged (loads names) (Verdict fault Makes names) (Writes fault Makes names) (CommandLacks names)
 
 -- what stands after a command with this status
-abbrev pub CommandEnds : Shown → ℕ → HostState → HostState → Type 0
+abbrev pub CommandEnds : CommandModel → ℕ → HostState → HostState → Type 0
 CommandEnds (run names options) status old new = RunAnswers names options status old new
 CommandEnds (hunt names options) status old new = HuntAnswers names options status old new
 CommandEnds (replay files report) status old new = (on_a_run replay_fault IsReplayed (with_report files report)).Ends status old new
@@ -80,7 +80,7 @@ CommandEnds (gen workload source) status old new = Answers gen_loads gen_check (
 CommandEnds (bench workload schedule stay) status old new = Answers bench_loads (bench_check workload) (BenchWrites workload schedule) LeavesAll status old new
 
 -- if no I/O error occurs, the file contents determine the status, unless memory runs out; of a run 15 may stand for 0 with --status
-abbrev pub IsComplete : Shown → ℕ → HostState → HostState → Type 0
+abbrev pub IsComplete : CommandModel → ℕ → HostState → HostState → Type 0
 IsComplete (run names options) status old new = RunDecided names options status old new
 IsComplete (hunt names options) status old new = HuntDecided names options status old new
 IsComplete (replay files report) status old new = (on_a_run replay_fault IsReplayed (with_report files report)).Decided status old new

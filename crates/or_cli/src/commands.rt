@@ -2,7 +2,7 @@
 ghost use Rattle.std.specs.Prelude.{◌≡◌, ◌≢◌, ◌↔◌, ◌⊎◌, ℕ, None, IfSome};
 ghost use Rattle.or_command_line.specs.Words.{texts};
 ghost use Rattle.or_command_line.specs.Command.{command_of};
-ghost use Rattle.or_command_line.specs.Command.Shown.{replay, debug, back, race, prof};
+ghost use Rattle.or_command_line.specs.Command.CommandModel.{replay, debug, back, race, prof};
 ghost use Rattle.or_words.specs.Settings.{Fits};
 ghost use Rattle.or_command_line.specs.Names.{run_names, hunt_names, recorded_names, AreWritten, AreRecorded, IsReport};
 ghost use Rattle.or_command.specs.Outcomes.{LeavesAll};

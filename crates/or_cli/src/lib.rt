@@ -8,4 +8,4 @@ pub use commands::{top, top_alone, top_run};
 pub use entry::program;
 pub use or_about::{Help, Texts};
 pub use or_board::{Gate, OpenGate};
-pub use or_host::{Blame, Deed, Failed, FileHost, Host, LoadFail, MemHost, SureHost};
+pub use or_host::{Blame, Failed, FileHost, Host, LoadFail, MemHost, Operation, SureHost};

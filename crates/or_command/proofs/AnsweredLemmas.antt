@@ -14,22 +14,22 @@ use Rattle.or_command.proofs.CompleteLemmas.{complete_by, complete, long_file_de
 
 -- a command as in Outcomes
 module _ (loads : List Load) (Verdict : List (List ℕ) → Option FailedCheck → Type 0) (Writes : List (List ℕ) → List File → List ℕ → Type 0)
-    (Lacking : HostState → HostState → Type 0) where
+    (OnNoMemory : HostState → HostState → Type 0) where
   -- a command's work, then its line and its status
-  pub answered_by : (end : CommandEnd) (status : ℕ) (a b c : HostState) → (Lacking a b → Lacking a c) → status ≡ status_of end
-      → OutcomeBy loads Verdict Writes Lacking end a b → Silent a b → SaidLine (lines_of end) b c → OnlySays b c
-      → AnswersBy loads Verdict Writes Lacking status a c
+  pub answered_by : (end : CommandEnd) (status : ℕ) (a b c : HostState) → (OnNoMemory a b → OnNoMemory a c) → status ≡ status_of end
+      → OutcomeBy loads Verdict Writes OnNoMemory end a b → Silent a b → SaidLine (lines_of end) b c → OnlySays b c
+      → AnswersBy loads Verdict Writes OnNoMemory status a c
   answered_by end status a b c lacking is outcome silent line only =
-      record { end = end; status_is = is; runs = concluded_by loads Verdict Writes Lacking end a b c lacking outcome silent line only }
+      record { end = end; status_is = is; runs = concluded_by loads Verdict Writes OnNoMemory end a b c lacking outcome silent line only }
 
   -- where no fault came, the files decide the status
-  pub decided_by : (status : ℕ) (a c : HostState) → AnswersBy loads Verdict Writes Lacking status a c → IsDecidedBy loads Verdict Writes Lacking status a c
+  pub decided_by : (status : ℕ) (a c : HostState) → AnswersBy loads Verdict Writes OnNoMemory status a c → IsDecidedBy loads Verdict Writes OnNoMemory status a c
   decided_by status a c answers = record {
-    by_files = λ files told sound. elim (complete_by loads Verdict Writes Lacking answers.end a c files answers.runs.outcome told sound) [
+    by_files = λ files told sound. elim (complete_by loads Verdict Writes OnNoMemory answers.end a c files answers.runs.outcome told sound) [
       | inl e ↦ inl (record { end = answers.end; is_end = e; status_is = answers.status_is })
       | inr e ↦ inr (answers.status_is ∙ ap status_of e.0, e.1)
     ];
-    by_long = λ long sound. elim (long_file_decides_by loads Verdict Writes Lacking answers.end a c long.front long.load long.rest long.before long.file
+    by_long = λ long sound. elim (long_file_decides_by loads Verdict Writes OnNoMemory answers.end a c long.front long.load long.rest long.before long.file
         answers.runs.outcome long.order long.told long.fit long.held long.over sound) [
           | inl e ↦ inl (answers.status_is ∙ ap status_of e)
           | inr e ↦ inr (answers.status_is ∙ ap status_of e.0, e.1)
@@ -37,7 +37,7 @@ module _ (loads : List Load) (Verdict : List (List ℕ) → Option FailedCheck �
   }
 
   end_not_two : (end : CommandEnd) (a c : HostState) → ((files : List (List ℕ)) (fault : FailedCheck) → Verdict files (Some fault) → fault.status ≢ 2)
-      → OutcomeBy loads Verdict Writes Lacking end a c → status_of end ≢ 2
+      → OutcomeBy loads Verdict Writes OnNoMemory end a c → status_of end ≢ 2
   end_not_two done a c other outcome e = absurd (omega (arith, e))
   end_not_two (unread name) a c other outcome e = absurd (omega (arith, e))
   end_not_two (too_long name limit) a c other outcome e = absurd (omega (arith, e))
@@ -47,30 +47,30 @@ module _ (loads : List Load) (Verdict : List (List ℕ) → Option FailedCheck �
 
   -- no check has status 2, so a command does not answer it
   pub not_two_by : (status : ℕ) (a c : HostState) → ((files : List (List ℕ)) (fault : FailedCheck) → Verdict files (Some fault) → fault.status ≢ 2)
-      → AnswersBy loads Verdict Writes Lacking status a c → status ≢ 2
+      → AnswersBy loads Verdict Writes OnNoMemory status a c → status ≢ 2
   not_two_by status a c other answers two = end_not_two answers.end a c other answers.runs.outcome (sym answers.status_is ∙ two)
 
 -- the same of a command whose verdict is a function of its files
 module _ (loads : List Load) (verdict : List (List ℕ) → Option FailedCheck) (Writes : List (List ℕ) → List File → List ℕ → Type 0)
-    (Lacking : HostState → HostState → Type 0) where
-  pub answered : (end : CommandEnd) (status : ℕ) (a b c : HostState) → (Lacking a b → Lacking a c) → status ≡ status_of end
-      → CommandOutcome loads verdict Writes Lacking end a b → Silent a b → SaidLine (lines_of end) b c → OnlySays b c
-      → Answers loads verdict Writes Lacking status a c
+    (OnNoMemory : HostState → HostState → Type 0) where
+  pub answered : (end : CommandEnd) (status : ℕ) (a b c : HostState) → (OnNoMemory a b → OnNoMemory a c) → status ≡ status_of end
+      → CommandOutcome loads verdict Writes OnNoMemory end a b → Silent a b → SaidLine (lines_of end) b c → OnlySays b c
+      → Answers loads verdict Writes OnNoMemory status a c
   answered end status a b c lacking is outcome silent line only =
-      answered_by loads (Computes verdict) Writes Lacking end status a b c lacking is outcome silent line only
+      answered_by loads (Computes verdict) Writes OnNoMemory end status a b c lacking is outcome silent line only
 
-  pub decided : (status : ℕ) (a c : HostState) → Answers loads verdict Writes Lacking status a c → IsDecided loads verdict Writes Lacking status a c
+  pub decided : (status : ℕ) (a c : HostState) → Answers loads verdict Writes OnNoMemory status a c → IsDecided loads verdict Writes OnNoMemory status a c
   decided status a c answers = record {
-    by_files = λ files told sound. elim (complete loads verdict Writes Lacking answers.end a c files answers.runs.outcome told sound) [
+    by_files = λ files told sound. elim (complete loads verdict Writes OnNoMemory answers.end a c files answers.runs.outcome told sound) [
       | inl e ↦ inl (answers.status_is ∙ ap status_of e)
       | inr e ↦ inr (answers.status_is ∙ ap status_of e.0, e.1)
     ];
-    by_long = (decided_by loads (Computes verdict) Writes Lacking status a c answers).by_long;
+    by_long = (decided_by loads (Computes verdict) Writes OnNoMemory status a c answers).by_long;
   }
 
   pub not_two : (status : ℕ) (a c : HostState) → ((files : List (List ℕ)) (fault : FailedCheck) → verdict files ≡ Some fault → fault.status ≢ 2)
-      → Answers loads verdict Writes Lacking status a c → status ≢ 2
-  not_two status a c other answers = not_two_by loads (Computes verdict) Writes Lacking status a c other answers
+      → Answers loads verdict Writes OnNoMemory status a c → status ≢ 2
+  not_two status a c other answers = not_two_by loads (Computes verdict) Writes OnNoMemory status a c other answers
 
 -- such a command that leaves all as it was where memory ran out, and writes no file that it loads
 module _ (loads : List Load) (verdict : List (List ℕ) → Option FailedCheck) (Writes : List (List ℕ) → List File → List ℕ → Type 0)

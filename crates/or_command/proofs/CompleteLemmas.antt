@@ -66,32 +66,32 @@ stops_rose outs console name a b (inr at) = at.1.cause.rose
 
 -- Where the host tells all files and no fault came, a command comes to what its files come to, or memory ran out.
 pub complete_by : (loads : List Load) (Verdict : List (List ℕ) → Option FailedCheck → Type 0) (Writes : List (List ℕ) → List File → List ℕ → Type 0)
-    (Lacking : HostState → HostState → Type 0) (end : CommandEnd) (a b : HostState) (files : List (List ℕ))
-    → OutcomeBy loads Verdict Writes Lacking end a b → AllTold loads files b → (Rose a.faults b.faults → ⊥)
-    → IsEndOf loads Verdict Writes Lacking files end ⊎ ((end ≡ no_memory) × Lacking a b)
-complete_by loads Verdict Writes Lacking done a b files outcome told sound =
+    (OnNoMemory : HostState → HostState → Type 0) (end : CommandEnd) (a b : HostState) (files : List (List ℕ))
+    → OutcomeBy loads Verdict Writes OnNoMemory end a b → AllTold loads files b → (Rose a.faults b.faults → ⊥)
+    → IsEndOf loads Verdict Writes OnNoMemory files end ⊎ ((end ≡ no_memory) × OnNoMemory a b)
+complete_by loads Verdict Writes OnNoMemory done a b files outcome told sound =
     let same : outcome.files ≡ files = same_read loads outcome.files files b outcome.read told in
     let fits : first_long loads files ≡ None = subst (λ (x : List (List ℕ)). first_long loads x ≡ None) same (none_long loads outcome.files b outcome.read) in
-    let judged : IsJudged loads Verdict Writes Lacking files done =
+    let judged : IsJudged loads Verdict Writes OnNoMemory files done =
     record { found = None; verdict = subst (λ (x : List (List ℕ)). Verdict x None) same outcome.sound; is_end = refl } in
-    inl (subst (λ (l : Option Load). EndsBy loads Verdict Writes Lacking l files done) (sym fits) judged)
-complete_by loads Verdict Writes Lacking (refused r) a b files outcome told sound =
+    inl (subst (λ (l : Option Load). EndsBy loads Verdict Writes OnNoMemory l files done) (sym fits) judged)
+complete_by loads Verdict Writes OnNoMemory (refused r) a b files outcome told sound =
     let same : outcome.files ≡ files = same_read loads outcome.files files b outcome.read told in
     let fits : first_long loads files ≡ None = subst (λ (x : List (List ℕ)). first_long loads x ≡ None) same (none_long loads outcome.files b outcome.read) in
-    let judged : IsJudged loads Verdict Writes Lacking files (refused r) =
+    let judged : IsJudged loads Verdict Writes OnNoMemory files (refused r) =
     record { found = Some r; verdict = subst (λ (x : List (List ℕ)). Verdict x (Some r)) same outcome.found; is_end = refl } in
-    inl (subst (λ (l : Option Load). EndsBy loads Verdict Writes Lacking l files (refused r)) (sym fits) judged)
-complete_by loads Verdict Writes Lacking (too_long name limit) a b files outcome told sound =
+    inl (subst (λ (l : Option Load). EndsBy loads Verdict Writes OnNoMemory l files (refused r)) (sym fits) judged)
+complete_by loads Verdict Writes OnNoMemory (too_long name limit) a b files outcome told sound =
     let told_here : AllTold (outcome.stopped.front ++ outcome.stopped.load ∷ outcome.stopped.rest) files b = subst (λ (ls : List Load). AllTold ls files b) outcome.stopped.order told in
     let first : first_long loads files ≡ Some outcome.stopped.load =
     ap (λ ls. first_long ls files) outcome.stopped.order
     ∙ long_at outcome.stopped.front outcome.stopped.load outcome.stopped.rest outcome.before files outcome.stopped.taken b outcome.stopped.read told_here outcome.stopped.told outcome.stopped.long in
     let is : too_long name limit ≡ too_long outcome.stopped.load.name outcome.stopped.load.limit =
     ap (λ n. too_long n limit) outcome.stopped.named ∙ ap (λ n. too_long outcome.stopped.load.name n) outcome.stopped.limited in
-    inl (subst (λ (l : Option Load). EndsBy loads Verdict Writes Lacking l files (too_long name limit)) (sym first) is)
-complete_by loads Verdict Writes Lacking (unread name) a b files outcome told sound = absurd (sound outcome.stopped.cause.rose)
-complete_by loads Verdict Writes Lacking (unwritten name) a b files outcome told sound = absurd (sound (stops_rose outcome.outs outcome.console name a b outcome.stopped))
-complete_by loads Verdict Writes Lacking no_memory a b files outcome told sound = inr (refl, outcome)
+    inl (subst (λ (l : Option Load). EndsBy loads Verdict Writes OnNoMemory l files (too_long name limit)) (sym first) is)
+complete_by loads Verdict Writes OnNoMemory (unread name) a b files outcome told sound = absurd (sound outcome.stopped.cause.rose)
+complete_by loads Verdict Writes OnNoMemory (unwritten name) a b files outcome told sound = absurd (sound (stops_rose outcome.outs outcome.console name a b outcome.stopped))
+complete_by loads Verdict Writes OnNoMemory no_memory a b files outcome told sound = inr (refl, outcome)
 
 -- a file that was read is within its limit
 long_not_read : (front : List Load) (load : Load) (rest : List Load) (files : List (List ℕ)) (file : List ℕ) (b : HostState)
@@ -134,43 +134,43 @@ same_long (f ∷ front) (f' ∷ front') load load' rest rest' (g ∷ before) (h 
 -- Where the host tells the files up to one that is the first to hold more than its limit, and no fault came, a command comes
 -- to this file, or memory ran out.
 pub long_file_decides_by : (loads : List Load) (Verdict : List (List ℕ) → Option FailedCheck → Type 0) (Writes : List (List ℕ) → List File → List ℕ → Type 0)
-    (Lacking : HostState → HostState → Type 0) (end : CommandEnd) (a b : HostState) (front : List Load) (load : Load) (rest : List Load) (told : List (List ℕ)) (file : List ℕ)
-    → OutcomeBy loads Verdict Writes Lacking end a b → loads ≡ front ++ load ∷ rest → AllTold front told b → AllFit front told
+    (OnNoMemory : HostState → HostState → Type 0) (end : CommandEnd) (a b : HostState) (front : List Load) (load : Load) (rest : List Load) (told : List (List ℕ)) (file : List ℕ)
+    → OutcomeBy loads Verdict Writes OnNoMemory end a b → loads ≡ front ++ load ∷ rest → AllTold front told b → AllFit front told
     → b.holds load.name ≡ Some (Some file) → load.limit < length file → (Rose a.faults b.faults → ⊥)
-    → (end ≡ too_long load.name load.limit) ⊎ ((end ≡ no_memory) × Lacking a b)
-long_file_decides_by loads Verdict Writes Lacking done a b front load rest told file outcome order tells fits held over sound =
+    → (end ≡ too_long load.name load.limit) ⊎ ((end ≡ no_memory) × OnNoMemory a b)
+long_file_decides_by loads Verdict Writes OnNoMemory done a b front load rest told file outcome order tells fits held over sound =
     absurd (long_not_read front load rest outcome.files file b (subst (λ (ls : List Load). AreRead ls outcome.files b) order outcome.read) held over)
-long_file_decides_by loads Verdict Writes Lacking (refused r) a b front load rest told file outcome order tells fits held over sound =
+long_file_decides_by loads Verdict Writes OnNoMemory (refused r) a b front load rest told file outcome order tells fits held over sound =
     absurd (long_not_read front load rest outcome.files file b (subst (λ (ls : List Load). AreRead ls outcome.files b) order outcome.read) held over)
-long_file_decides_by loads Verdict Writes Lacking (too_long name limit) a b front load rest told file outcome order tells fits held over sound =
+long_file_decides_by loads Verdict Writes OnNoMemory (too_long name limit) a b front load rest told file outcome order tells fits held over sound =
     let at : outcome.stopped.load ≡ load = same_long outcome.stopped.front front outcome.stopped.load load outcome.stopped.rest rest outcome.before told outcome.stopped.taken file b
     (sym outcome.stopped.order ∙ order) outcome.stopped.read outcome.stopped.told outcome.stopped.long tells fits held over in
     inl (ap (λ n. too_long n limit) outcome.stopped.named ∙ ap (λ n. too_long outcome.stopped.load.name n) outcome.stopped.limited
     ∙ ap (λ (l : Load). too_long l.name l.limit) at)
-long_file_decides_by loads Verdict Writes Lacking (unread name) a b front load rest told file outcome order tells fits held over sound = absurd (sound outcome.stopped.cause.rose)
-long_file_decides_by loads Verdict Writes Lacking (unwritten name) a b front load rest told file outcome order tells fits held over sound =
+long_file_decides_by loads Verdict Writes OnNoMemory (unread name) a b front load rest told file outcome order tells fits held over sound = absurd (sound outcome.stopped.cause.rose)
+long_file_decides_by loads Verdict Writes OnNoMemory (unwritten name) a b front load rest told file outcome order tells fits held over sound =
     absurd (sound (stops_rose outcome.outs outcome.console name a b outcome.stopped))
-long_file_decides_by loads Verdict Writes Lacking no_memory a b front load rest told file outcome order tells fits held over sound = inr (refl, outcome)
+long_file_decides_by loads Verdict Writes OnNoMemory no_memory a b front load rest told file outcome order tells fits held over sound = inr (refl, outcome)
 
 computed_end : (loads : List Load) (verdict : List (List ℕ) → Option FailedCheck) (Writes : List (List ℕ) → List File → List ℕ → Type 0)
-    (Lacking : HostState → HostState → Type 0) (long : Option Load) (files : List (List ℕ)) (end : CommandEnd)
-    → EndsBy loads (Computes verdict) Writes Lacking long files end → end ≡ end_by long (verdict files)
-computed_end loads verdict Writes Lacking (Some load) files end is = is
-computed_end loads verdict Writes Lacking None files end is = is.is_end ∙ ap (end_by None) (sym is.verdict)
+    (OnNoMemory : HostState → HostState → Type 0) (long : Option Load) (files : List (List ℕ)) (end : CommandEnd)
+    → EndsBy loads (Computes verdict) Writes OnNoMemory long files end → end ≡ end_by long (verdict files)
+computed_end loads verdict Writes OnNoMemory (Some load) files end is = is
+computed_end loads verdict Writes OnNoMemory None files end is = is.is_end ∙ ap (end_by None) (sym is.verdict)
 
 -- the same of a command whose verdict is a function of its files
 module _ (loads : List Load) (verdict : List (List ℕ) → Option FailedCheck) (Writes : List (List ℕ) → List File → List ℕ → Type 0)
-    (Lacking : HostState → HostState → Type 0) where
-  pub complete : (end : CommandEnd) (a b : HostState) (files : List (List ℕ)) → CommandOutcome loads verdict Writes Lacking end a b → AllTold loads files b
-      → (Rose a.faults b.faults → ⊥) → (end ≡ end_of_files loads verdict Writes Lacking files) ⊎ ((end ≡ no_memory) × Lacking a b)
-  complete end a b files outcome told sound = elim (complete_by loads (Computes verdict) Writes Lacking end a b files outcome told sound) [
-    | inl e ↦ inl (computed_end loads verdict Writes Lacking (first_long loads files) files end e)
+    (OnNoMemory : HostState → HostState → Type 0) where
+  pub complete : (end : CommandEnd) (a b : HostState) (files : List (List ℕ)) → CommandOutcome loads verdict Writes OnNoMemory end a b → AllTold loads files b
+      → (Rose a.faults b.faults → ⊥) → (end ≡ end_of_files loads verdict Writes OnNoMemory files) ⊎ ((end ≡ no_memory) × OnNoMemory a b)
+  complete end a b files outcome told sound = elim (complete_by loads (Computes verdict) Writes OnNoMemory end a b files outcome told sound) [
+    | inl e ↦ inl (computed_end loads verdict Writes OnNoMemory (first_long loads files) files end e)
     | inr e ↦ inr e
   ]
 
   pub long_file_decides : (end : CommandEnd) (a b : HostState) (front : List Load) (load : Load) (rest : List Load) (told : List (List ℕ)) (file : List ℕ)
-      → CommandOutcome loads verdict Writes Lacking end a b → loads ≡ front ++ load ∷ rest → AllTold front told b → AllFit front told
+      → CommandOutcome loads verdict Writes OnNoMemory end a b → loads ≡ front ++ load ∷ rest → AllTold front told b → AllFit front told
       → b.holds load.name ≡ Some (Some file) → load.limit < length file → (Rose a.faults b.faults → ⊥)
-      → (end ≡ too_long load.name load.limit) ⊎ ((end ≡ no_memory) × Lacking a b)
+      → (end ≡ too_long load.name load.limit) ⊎ ((end ≡ no_memory) × OnNoMemory a b)
   long_file_decides end a b front load rest told file outcome order tells fits held over sound =
-      long_file_decides_by loads (Computes verdict) Writes Lacking end a b front load rest told file outcome order tells fits held over sound
+      long_file_decides_by loads (Computes verdict) Writes OnNoMemory end a b front load rest told file outcome order tells fits held over sound

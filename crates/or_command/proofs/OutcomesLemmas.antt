@@ -5,8 +5,8 @@ use Rattle.or_host.specs.Told.{TellsSame, IsPrefixOfFile}
 use Rattle.or_host.specs.Counts.{Rose}
 use Rattle.or_host.specs.HostState.{HostState}
 use Rattle.or_host.specs.Calls.{dash}
-use Rattle.or_host.specs.declared.host.Deed.{Deed}
-use Rattle.or_host.specs.declared.host.Deed.TheVariants.{Write, Load as Loading}
+use Rattle.or_host.specs.declared.host.Operation.{Operation}
+use Rattle.or_host.specs.declared.host.Operation.TheVariants.{Write, Load as Loading}
 use Rattle.or_command.specs.declared.loading.LoadStop.{LoadStop}
 use Rattle.or_command.specs.declared.loading.LoadStop.TheVariants.{Unread, TooLong, NoMemory}
 use Rattle.or_command.specs.Leaves.{Untouched, NoFault, FaultOf, Silent}
@@ -86,17 +86,17 @@ end_of_stop NoMemory = no_memory
 
 -- a command that stops at its loads
 pub stop_by : (loads : List Load) (Verdict : List (List ℕ) → Option FailedCheck → Type 0) (Writes : List (List ℕ) → List File → List ℕ → Type 0)
-    (Lacking : HostState → HostState → Type 0) (stop : LoadStop) (before : List (List ℕ)) (a b : HostState)
-    → (LeavesAll a b → Rose a.lacks b.lacks → Lacking a b) → StopsLoading loads stop before a b → OutcomeBy loads Verdict Writes Lacking (end_of_stop stop) a b
-stop_by loads Verdict Writes Lacking (Unread name) before a b lacking stops = record { before = before; stopped = stops }
-stop_by loads Verdict Writes Lacking (TooLong name limit) before a b lacking stops = record { before = before; stopped = stops }
-stop_by loads Verdict Writes Lacking NoMemory before a b lacking stops = lacking (record { untouched = stops.untouched; no_fault = stops.no_fault }) stops.lacked
+    (OnNoMemory : HostState → HostState → Type 0) (stop : LoadStop) (before : List (List ℕ)) (a b : HostState)
+    → (LeavesAll a b → Rose a.lacks b.lacks → OnNoMemory a b) → StopsLoading loads stop before a b → OutcomeBy loads Verdict Writes OnNoMemory (end_of_stop stop) a b
+stop_by loads Verdict Writes OnNoMemory (Unread name) before a b lacking stops = record { before = before; stopped = stops }
+stop_by loads Verdict Writes OnNoMemory (TooLong name limit) before a b lacking stops = record { before = before; stopped = stops }
+stop_by loads Verdict Writes OnNoMemory NoMemory before a b lacking stops = lacking (record { untouched = stops.untouched; no_fault = stops.no_fault }) stops.lacked
 
 -- a command that refuses what it loaded
 pub refusal_by : (loads : List Load) (Verdict : List (List ℕ) → Option FailedCheck → Type 0) (Writes : List (List ℕ) → List File → List ℕ → Type 0)
-    (Lacking : HostState → HostState → Type 0) (files : List (List ℕ)) (fault : FailedCheck) (a b : HostState)
-    → AllRead loads files a b → Verdict files (Some fault) → OutcomeBy loads Verdict Writes Lacking (refused fault) a b
-refusal_by loads Verdict Writes Lacking files fault a b all found =
+    (OnNoMemory : HostState → HostState → Type 0) (files : List (List ℕ)) (fault : FailedCheck) (a b : HostState)
+    → AllRead loads files a b → Verdict files (Some fault) → OutcomeBy loads Verdict Writes OnNoMemory (refused fault) a b
+refusal_by loads Verdict Writes OnNoMemory files fault a b all found =
     record { files = files; read = all.read; found = found; untouched = all.untouched; no_fault = all.no_fault }
 
 -- a command that finds no memory behind its loads
@@ -106,10 +106,10 @@ memory_by loads Verdict Writes files a b all = record { untouched = all.untouche
 
 -- a command that writes all
 pub done_by : (loads : List Load) (Verdict : List (List ℕ) → Option FailedCheck → Type 0) (Writes : List (List ℕ) → List File → List ℕ → Type 0)
-    (Lacking : HostState → HostState → Type 0) (files : List (List ℕ)) (outs : List File) (console : List ℕ) (a b c : HostState)
+    (OnNoMemory : HostState → HostState → Type 0) (files : List (List ℕ)) (outs : List File) (console : List ℕ) (a b c : HostState)
     → AreApart loads outs → AllRead loads files a b → Verdict files None → Writes files outs console → AllWritten outs console b c
-    → OutcomeBy loads Verdict Writes Lacking done a c
-done_by loads Verdict Writes Lacking files outs console a b c apart all sound writes out = record {
+    → OutcomeBy loads Verdict Writes OnNoMemory done a c
+done_by loads Verdict Writes OnNoMemory files outs console a b c apart all sound writes out = record {
   files = files;
   read = read_apart loads files outs b c apart out.others all.read;
   sound = sound;
@@ -121,10 +121,10 @@ done_by loads Verdict Writes Lacking files outs console a b c apart all sound wr
 
 -- a command whose write fails
 pub unwritten_by : (loads : List Load) (Verdict : List (List ℕ) → Option FailedCheck → Type 0) (Writes : List (List ℕ) → List File → List ℕ → Type 0)
-    (Lacking : HostState → HostState → Type 0) (files : List (List ℕ)) (outs : List File) (console name : List ℕ) (a b c : HostState)
+    (OnNoMemory : HostState → HostState → Type 0) (files : List (List ℕ)) (outs : List File) (console name : List ℕ) (a b c : HostState)
     → AreApart loads outs → AllRead loads files a b → Verdict files None → Writes files outs console → WriteStopped outs console name b c
-    → OutcomeBy loads Verdict Writes Lacking (unwritten name) a c
-unwritten_by loads Verdict Writes Lacking files outs console name a b c apart all sound writes stopped = record {
+    → OutcomeBy loads Verdict Writes OnNoMemory (unwritten name) a c
+unwritten_by loads Verdict Writes OnNoMemory files outs console name a b c apart all sound writes stopped = record {
   files = files;
   read = read_apart loads files outs b c apart (stopped_same outs console name b c stopped) all.read;
   sound = sound;
@@ -140,8 +140,8 @@ said_untouched a b c ab bc = untouched_then a b c ab (record { names = bc.names;
 said_no_fault : (a b c : HostState) → NoFault a b → OnlySays b c → NoFault a c
 said_no_fault a b c ab bc = record { faults = bc.faults ∙ ab.faults; blame = bc.blame ∙ ab.blame }
 
-said_fault : (deed : Deed) (name : List ℕ) (a b c : HostState) → FaultOf deed name a b → OnlySays b c → FaultOf deed name a c
-said_fault deed name a b c ab bc = record {
+said_fault : (operation : Operation) (name : List ℕ) (a b c : HostState) → FaultOf operation name a b → OnlySays b c → FaultOf operation name a c
+said_fault operation name a b c ab bc = record {
   rose = subst (λ (n : ℕ). Rose a.faults n) (sym bc.faults) ab.rose;
   blame = bc.blame ∙ ab.blame;
 }
@@ -204,9 +204,9 @@ said_stopped outs console name a b c (inr at) bc = inr (
 
 -- what an outcome says stays true where only something is said
 said_outcome : (loads : List Load) (Verdict : List (List ℕ) → Option FailedCheck → Type 0) (Writes : List (List ℕ) → List File → List ℕ → Type 0)
-    (Lacking : HostState → HostState → Type 0) (end : CommandEnd) (a b c : HostState) → (Lacking a b → Lacking a c)
-    → OutcomeBy loads Verdict Writes Lacking end a b → OnlySays b c → OutcomeBy loads Verdict Writes Lacking end a c
-said_outcome loads Verdict Writes Lacking done a b c lacking outcome bc = record {
+    (OnNoMemory : HostState → HostState → Type 0) (end : CommandEnd) (a b c : HostState) → (OnNoMemory a b → OnNoMemory a c)
+    → OutcomeBy loads Verdict Writes OnNoMemory end a b → OnlySays b c → OutcomeBy loads Verdict Writes OnNoMemory end a c
+said_outcome loads Verdict Writes OnNoMemory done a b c lacking outcome bc = record {
   files = outcome.files;
   read = read_stays loads outcome.files b c bc.names outcome.read;
   sound = outcome.sound;
@@ -215,7 +215,7 @@ said_outcome loads Verdict Writes Lacking done a b c lacking outcome bc = record
   writes = outcome.writes;
   out = said_written outcome.outs outcome.console a b c outcome.out bc;
 }
-said_outcome loads Verdict Writes Lacking (unread name) a b c lacking outcome bc = record {
+said_outcome loads Verdict Writes OnNoMemory (unread name) a b c lacking outcome bc = record {
   before = outcome.before;
   stopped = record {
     front = outcome.stopped.front;
@@ -228,7 +228,7 @@ said_outcome loads Verdict Writes Lacking (unread name) a b c lacking outcome bc
     untouched = said_untouched a b c outcome.stopped.untouched bc;
   };
 }
-said_outcome loads Verdict Writes Lacking (too_long name limit) a b c lacking outcome bc = record {
+said_outcome loads Verdict Writes OnNoMemory (too_long name limit) a b c lacking outcome bc = record {
   before = outcome.before;
   stopped = record {
     front = outcome.stopped.front;
@@ -245,14 +245,14 @@ said_outcome loads Verdict Writes Lacking (too_long name limit) a b c lacking ou
     no_fault = said_no_fault a b c outcome.stopped.no_fault bc;
   };
 }
-said_outcome loads Verdict Writes Lacking (refused fault) a b c lacking outcome bc = record {
+said_outcome loads Verdict Writes OnNoMemory (refused fault) a b c lacking outcome bc = record {
   files = outcome.files;
   read = read_stays loads outcome.files b c bc.names outcome.read;
   found = outcome.found;
   untouched = said_untouched a b c outcome.untouched bc;
   no_fault = said_no_fault a b c outcome.no_fault bc;
 }
-said_outcome loads Verdict Writes Lacking (unwritten name) a b c lacking outcome bc = record {
+said_outcome loads Verdict Writes OnNoMemory (unwritten name) a b c lacking outcome bc = record {
   files = outcome.files;
   read = read_stays loads outcome.files b c bc.names outcome.read;
   sound = outcome.sound;
@@ -261,42 +261,42 @@ said_outcome loads Verdict Writes Lacking (unwritten name) a b c lacking outcome
   writes = outcome.writes;
   stopped = said_stopped outcome.outs outcome.console name a b c outcome.stopped bc;
 }
-said_outcome loads Verdict Writes Lacking no_memory a b c lacking outcome bc = lacking outcome
+said_outcome loads Verdict Writes OnNoMemory no_memory a b c lacking outcome bc = lacking outcome
 
 -- a command's work, which says nothing, and then its line
 pub concluded_by : (loads : List Load) (Verdict : List (List ℕ) → Option FailedCheck → Type 0) (Writes : List (List ℕ) → List File → List ℕ → Type 0)
-    (Lacking : HostState → HostState → Type 0) (end : CommandEnd) (a b c : HostState) → (Lacking a b → Lacking a c)
-    → OutcomeBy loads Verdict Writes Lacking end a b → Silent a b → SaidLine (lines_of end) b c → OnlySays b c → RunsBy loads Verdict Writes Lacking end a c
-concluded_by loads Verdict Writes Lacking end a b c lacking outcome silent line only = record {
-  outcome = said_outcome loads Verdict Writes Lacking end a b c lacking outcome only;
+    (OnNoMemory : HostState → HostState → Type 0) (end : CommandEnd) (a b c : HostState) → (OnNoMemory a b → OnNoMemory a c)
+    → OutcomeBy loads Verdict Writes OnNoMemory end a b → Silent a b → SaidLine (lines_of end) b c → OnlySays b c → RunsBy loads Verdict Writes OnNoMemory end a c
+concluded_by loads Verdict Writes OnNoMemory end a b c lacking outcome silent line only = record {
+  outcome = said_outcome loads Verdict Writes OnNoMemory end a b c lacking outcome only;
   said = line_after_silence (lines_of end) a b c silent line;
 }
 
 -- the same of a command whose verdict is a function of its files
 module _ (loads : List Load) (verdict : List (List ℕ) → Option FailedCheck) (Writes : List (List ℕ) → List File → List ℕ → Type 0) where
-  pub stop_outcome : (Lacking : HostState → HostState → Type 0) (stop : LoadStop) (before : List (List ℕ)) (a b : HostState)
-      → (LeavesAll a b → Rose a.lacks b.lacks → Lacking a b) → StopsLoading loads stop before a b → CommandOutcome loads verdict Writes Lacking (end_of_stop stop) a b
-  stop_outcome Lacking stop before a b lacking stops = stop_by loads (Computes verdict) Writes Lacking stop before a b lacking stops
+  pub stop_outcome : (OnNoMemory : HostState → HostState → Type 0) (stop : LoadStop) (before : List (List ℕ)) (a b : HostState)
+      → (LeavesAll a b → Rose a.lacks b.lacks → OnNoMemory a b) → StopsLoading loads stop before a b → CommandOutcome loads verdict Writes OnNoMemory (end_of_stop stop) a b
+  stop_outcome OnNoMemory stop before a b lacking stops = stop_by loads (Computes verdict) Writes OnNoMemory stop before a b lacking stops
 
-  pub refusal_outcome : (Lacking : HostState → HostState → Type 0) (files : List (List ℕ)) (fault : FailedCheck) (a b : HostState)
-      → AllRead loads files a b → verdict files ≡ Some fault → CommandOutcome loads verdict Writes Lacking (refused fault) a b
-  refusal_outcome Lacking files fault a b all found = refusal_by loads (Computes verdict) Writes Lacking files fault a b all found
+  pub refusal_outcome : (OnNoMemory : HostState → HostState → Type 0) (files : List (List ℕ)) (fault : FailedCheck) (a b : HostState)
+      → AllRead loads files a b → verdict files ≡ Some fault → CommandOutcome loads verdict Writes OnNoMemory (refused fault) a b
+  refusal_outcome OnNoMemory files fault a b all found = refusal_by loads (Computes verdict) Writes OnNoMemory files fault a b all found
 
   pub memory_outcome : (files : List (List ℕ)) (a b : HostState) → AllRead loads files a b → CommandOutcome loads verdict Writes LeavesAll no_memory a b
   memory_outcome files a b all = memory_by loads (Computes verdict) Writes files a b all
 
-  pub done_outcome : (Lacking : HostState → HostState → Type 0) (files : List (List ℕ)) (outs : List File) (console : List ℕ) (a b c : HostState)
+  pub done_outcome : (OnNoMemory : HostState → HostState → Type 0) (files : List (List ℕ)) (outs : List File) (console : List ℕ) (a b c : HostState)
       → AreApart loads outs → AllRead loads files a b → verdict files ≡ None → Writes files outs console → AllWritten outs console b c
-      → CommandOutcome loads verdict Writes Lacking done a c
-  done_outcome Lacking files outs console a b c apart all sound writes out =
-      done_by loads (Computes verdict) Writes Lacking files outs console a b c apart all sound writes out
+      → CommandOutcome loads verdict Writes OnNoMemory done a c
+  done_outcome OnNoMemory files outs console a b c apart all sound writes out =
+      done_by loads (Computes verdict) Writes OnNoMemory files outs console a b c apart all sound writes out
 
-  pub unwritten_outcome : (Lacking : HostState → HostState → Type 0) (files : List (List ℕ)) (outs : List File) (console name : List ℕ) (a b c : HostState)
+  pub unwritten_outcome : (OnNoMemory : HostState → HostState → Type 0) (files : List (List ℕ)) (outs : List File) (console name : List ℕ) (a b c : HostState)
       → AreApart loads outs → AllRead loads files a b → verdict files ≡ None → Writes files outs console → WriteStopped outs console name b c
-      → CommandOutcome loads verdict Writes Lacking (unwritten name) a c
-  unwritten_outcome Lacking files outs console name a b c apart all sound writes stopped =
-      unwritten_by loads (Computes verdict) Writes Lacking files outs console name a b c apart all sound writes stopped
+      → CommandOutcome loads verdict Writes OnNoMemory (unwritten name) a c
+  unwritten_outcome OnNoMemory files outs console name a b c apart all sound writes stopped =
+      unwritten_by loads (Computes verdict) Writes OnNoMemory files outs console name a b c apart all sound writes stopped
 
-  pub concluded : (Lacking : HostState → HostState → Type 0) (end : CommandEnd) (a b c : HostState) → (Lacking a b → Lacking a c)
-      → CommandOutcome loads verdict Writes Lacking end a b → Silent a b → SaidLine (lines_of end) b c → OnlySays b c → CommandRuns loads verdict Writes Lacking end a c
-  concluded Lacking end a b c lacking outcome silent line only = concluded_by loads (Computes verdict) Writes Lacking end a b c lacking outcome silent line only
+  pub concluded : (OnNoMemory : HostState → HostState → Type 0) (end : CommandEnd) (a b c : HostState) → (OnNoMemory a b → OnNoMemory a c)
+      → CommandOutcome loads verdict Writes OnNoMemory end a b → Silent a b → SaidLine (lines_of end) b c → OnlySays b c → CommandRuns loads verdict Writes OnNoMemory end a c
+  concluded OnNoMemory end a b c lacking outcome silent line only = concluded_by loads (Computes verdict) Writes OnNoMemory end a b c lacking outcome silent line only

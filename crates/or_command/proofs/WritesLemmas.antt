@@ -4,7 +4,7 @@ use Rattle.or_host.specs.Bytes.{Adds, AddsPrefix}
 use Rattle.or_host.specs.Told.{TellsStep, TellsSame}
 use Rattle.or_host.specs.HostState.{HostState}
 use Rattle.or_host.specs.Calls.{dash}
-use Rattle.or_host.specs.declared.host.Deed.TheVariants.{Write}
+use Rattle.or_host.specs.declared.host.Operation.TheVariants.{Write}
 use Rattle.or_command.specs.Leaves.{NoFault, FaultOf}
 use Rattle.or_command.specs.Writes.{File, AllHold, IsOther, AreFiles, FileWritten, FileStopped, FilesWritten, FilesStopped, AllWritten, WriteStopped}
 use Rattle.or_command.proofs.TellsLemmas.{same_refl, same_then, told_then, same_then_part, same_then_step, adds_none, rose_after, no_fault_then, no_fault_refl}

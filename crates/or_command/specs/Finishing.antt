@@ -36,10 +36,10 @@ module _ (Verdict : List (List ℕ) → Option FailedCheck → Type 0) (Writes :
     pub writes : Writes files outs console
     pub ends : WriteEnds outs console end old new
 
-  abbrev pub GoesOn : List (List ℕ) → CommandEnd → HostState → HostState → Type 0
-  GoesOn files done old new = WritesSoFar files done old new
-  GoesOn files (unwritten name) old new = WritesSoFar files (unwritten name) old new
-  GoesOn files (refused fault) old new = Verdict files (Some fault) × (new ≡ old)
-  GoesOn files no_memory old new = new ≡ old
-  GoesOn files (unread name) old new = ⊥
-  GoesOn files (too_long name limit) old new = ⊥
+  abbrev pub EndsAfterLoad : List (List ℕ) → CommandEnd → HostState → HostState → Type 0
+  EndsAfterLoad files done old new = WritesSoFar files done old new
+  EndsAfterLoad files (unwritten name) old new = WritesSoFar files (unwritten name) old new
+  EndsAfterLoad files (refused fault) old new = Verdict files (Some fault) × (new ≡ old)
+  EndsAfterLoad files no_memory old new = new ≡ old
+  EndsAfterLoad files (unread name) old new = ⊥
+  EndsAfterLoad files (too_long name limit) old new = ⊥

@@ -1,6 +1,6 @@
 -- What the parts of a command leave of a host's state.
 use Rattle.std.specs.Prelude.{◌≡◌, ◌≤◌, ℕ, List, Some}
-use Rattle.or_host.specs.declared.host.Deed.{Deed}
+use Rattle.or_host.specs.declared.host.Operation.{Operation}
 use Rattle.or_host.specs.Told.{TellsSame}
 use Rattle.or_host.specs.Counts.{Rose}
 use Rattle.or_host.specs.Blamed.{blamed}
@@ -16,10 +16,10 @@ pub record NoFault (old new : HostState) : Type 0 where
   pub faults : new.faults ≡ old.faults
   pub blame : new.blame ≡ old.blame
 
--- the count of faults rose, and this deed with this name is to blame
-pub record FaultOf (deed : Deed) (name : List ℕ) (old new : HostState) : Type 0 where
+-- the count of faults rose, and this operation with this name is to blame
+pub record FaultOf (operation : Operation) (name : List ℕ) (old new : HostState) : Type 0 where
   pub rose : Rose old.faults new.faults
-  pub blame : new.blame ≡ Some (blamed deed name)
+  pub blame : new.blame ≡ Some (blamed operation name)
 
 -- nothing was said, and say's count did not fall
 pub record Silent (old new : HostState) : Type 0 where

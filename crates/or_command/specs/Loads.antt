@@ -1,7 +1,7 @@
 -- Files that a command loads, one after another.
 use Rattle.std.specs.Prelude.{◌≡◌, ◌≤◌, ◌+◌, ℕ, List, [], ◌∷◌, ◌++◌, map, length, Some, IfSome, ⊤, Vec}
 use Rattle.std.specs.declared.alloc.Global.{Global}
-use Rattle.or_host.specs.declared.host.Deed.TheVariants.{Load as Loading}
+use Rattle.or_host.specs.declared.host.Operation.TheVariants.{Load as Loading}
 use Rattle.or_host.specs.Told.{IsPrefixOfFile}
 use Rattle.or_host.specs.Counts.{Rose}
 use Rattle.or_host.specs.HostState.{HostState}

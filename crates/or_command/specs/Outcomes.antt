@@ -49,10 +49,10 @@ AllTold (load ∷ loads) [] state = ⊥
 AllTold (load ∷ loads) (file ∷ files) state = (state.holds load.name ≡ Some (Some file)) × AllTold loads files state
 
 -- A command is told by four things: the files that it loads, in order; `Verdict`, the first check of their bytes that fails,
--- or that none does; `Writes`, which texts and console it writes of these bytes; and `Lacking`, what it leaves where memory
+-- or that none does; `Writes`, which texts and console it writes of these bytes; and `OnNoMemory`, what it leaves where memory
 -- ran out.
 module _ (loads : List Load) (Verdict : List (List ℕ) → Option FailedCheck → Type 0) (Writes : List (List ℕ) → List File → List ℕ → Type 0)
-    (Lacking : HostState → HostState → Type 0) where
+    (OnNoMemory : HostState → HostState → Type 0) where
   -- all is written
   pub record Finishes (old new : HostState) : Type 0 where
     pub files : List (List ℕ)
@@ -72,7 +72,7 @@ module _ (loads : List Load) (Verdict : List (List ℕ) → Option FailedCheck �
     pub no_fault : NoFault old new
 
   -- a write fails
-  pub record Breaks (name : List ℕ) (old new : HostState) : Type 0 where
+  pub record WriteFailed (name : List ℕ) (old new : HostState) : Type 0 where
     pub files : List (List ℕ)
     pub read : AreRead loads files new
     pub sound : Verdict files None
@@ -82,23 +82,23 @@ module _ (loads : List Load) (Verdict : List (List ℕ) → Option FailedCheck �
     pub stopped : WriteStopped outs console name old new
 
   -- a file is not read; those before it are
-  pub record Misses (name : List ℕ) (old new : HostState) : Type 0 where
+  pub record ReadFailed (name : List ℕ) (old new : HostState) : Type 0 where
     pub before : List (List ℕ)
     pub stopped : StopsUnread loads name before old new
 
   -- a file is the first that holds more than its limit
-  pub record Exceeds (name : List ℕ) (limit : ℕ) (old new : HostState) : Type 0 where
+  pub record LoadTooLong (name : List ℕ) (limit : ℕ) (old new : HostState) : Type 0 where
     pub before : List (List ℕ)
     pub stopped : StopsTooLong loads name limit before old new
 
   -- what stands after a command, by what it came to
   abbrev pub OutcomeBy : CommandEnd → HostState → HostState → Type 0
   OutcomeBy done old new = Finishes old new
-  OutcomeBy (unread name) old new = Misses name old new
-  OutcomeBy (too_long name limit) old new = Exceeds name limit old new
+  OutcomeBy (unread name) old new = ReadFailed name old new
+  OutcomeBy (too_long name limit) old new = LoadTooLong name limit old new
   OutcomeBy (refused fault) old new = Refuses fault old new
-  OutcomeBy (unwritten name) old new = Breaks name old new
-  OutcomeBy no_memory old new = Lacking old new
+  OutcomeBy (unwritten name) old new = WriteFailed name old new
+  OutcomeBy no_memory old new = OnNoMemory old new
 
   -- the same, with the lines that were said of it
   pub record RunsBy (end : CommandEnd) (old new : HostState) : Type 0 where
@@ -125,12 +125,12 @@ Computes verdict files found = verdict files ≡ found
 
 -- the same of a command with such a verdict
 module _ (loads : List Load) (verdict : List (List ℕ) → Option FailedCheck) (Writes : List (List ℕ) → List File → List ℕ → Type 0)
-    (Lacking : HostState → HostState → Type 0) where
+    (OnNoMemory : HostState → HostState → Type 0) where
   abbrev pub CommandOutcome : CommandEnd → HostState → HostState → Type 0
-  CommandOutcome end old new = OutcomeBy loads (Computes verdict) Writes Lacking end old new
+  CommandOutcome end old new = OutcomeBy loads (Computes verdict) Writes OnNoMemory end old new
 
   abbrev pub CommandRuns : CommandEnd → HostState → HostState → Type 0
-  CommandRuns end old new = RunsBy loads (Computes verdict) Writes Lacking end old new
+  CommandRuns end old new = RunsBy loads (Computes verdict) Writes OnNoMemory end old new
 
   abbrev pub end_of_files : List (List ℕ) → CommandEnd
   end_of_files files = end_by (first_long loads files) (verdict files)

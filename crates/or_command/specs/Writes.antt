@@ -1,6 +1,6 @@
 -- Files that a command writes, one after another, and what goes to standard output behind them.
 use Rattle.std.specs.Prelude.{◌≡◌, ◌≢◌, ◌⊎◌, ℕ, List, [], ◌∷◌, ◌++◌, map, Option, Some, None, IfSome, ⊤}
-use Rattle.or_host.specs.declared.host.Deed.TheVariants.{Write}
+use Rattle.or_host.specs.declared.host.Operation.TheVariants.{Write}
 use Rattle.or_host.specs.Bytes.{IsPrefix, Adds, AddsPrefix}
 use Rattle.or_host.specs.Told.{Content, TellsStep, TellsSame}
 use Rattle.or_host.specs.HostState.{HostState}

@@ -96,7 +96,7 @@ hunt_goes_on names options written held kept end a b c none all silent ends =
       outcome = loaded_goes_behind (hunt_loads names) (HuntVerdict names options) (HuntWrites names options) (apart_of names options written)
           (λ files. hunt_image_check names options files ≡ None) [] all.files end ends.heard ends.heard c refl
           (record { files = all.files; stands = refl; all = read_still names all.files a b ends.heard all.all ends.tries.only })
-          (subst (λ (files : List (List ℕ)). Rattle.or_command.specs.Finishing.GoesOn (HuntVerdict names options) (HuntWrites names options) files end ends.heard c) same ends.ends)
+          (subst (λ (files : List (List ℕ)). Rattle.or_command.specs.Finishing.EndsAfterLoad (HuntVerdict names options) (HuntWrites names options) files end ends.heard c) same ends.ends)
           (subst (λ (files : List (List ℕ)). IfNoMemory end (hunt_image_check names options files ≡ None)) same ends.passed);
       silent = ends.silent;
     }
@@ -121,7 +121,7 @@ hunt_stops names options stop held kept a b some silent = record {
 
 -- a hunt that ends behind its loads where the host is as it was
 pub hunt_stays : (names : Names) (options : HuntOptions) (files : List (List ℕ)) (end : CommandEnd) (a b : HostState) → IsHeard options.tries a b
-    → Rattle.or_command.specs.Finishing.GoesOn (HuntVerdict names options) (HuntWrites names options) files end b b
+    → Rattle.or_command.specs.Finishing.EndsAfterLoad (HuntVerdict names options) (HuntWrites names options) files end b b
     → IfNoMemory end (hunt_image_check names options files ≡ None) → HuntGoesOn names options files end a b
 hunt_stays names options files end a b tries ends passed = record { heard = b; tries = tries; ends = ends; passed = passed; silent = silent_none b }
 

@@ -6,7 +6,7 @@ use Rattle.or_command_line.specs.Names.{Names}
 use Rattle.or_command.specs.Leaves.{Silent}
 use Rattle.or_command.specs.Ends.{CommandEnd}
 use Rattle.or_command.specs.Outcomes.{OutcomeBy}
-use Rattle.or_command.specs.Finishing.{GoesOn, IfNoMemory}
+use Rattle.or_command.specs.Finishing.{EndsAfterLoad, IfNoMemory}
 use Rattle.or_replay.specs.Start.{start}
 use Rattle.or_hunt.specs.Failing.{IsLeastFailing}
 use Rattle.or_command_image.specs.Opened.{head_of}
@@ -23,7 +23,7 @@ pub record IsFound (options : HuntOptions) (image input recording report text : 
 pub record HuntGoesOn (names : Names) (options : HuntOptions) (files : List (List ℕ)) (end : CommandEnd) (old new : HostState) : Type 0 where
   pub heard : HostState
   pub tries : IsHeard options.tries old heard
-  pub ends : GoesOn (HuntVerdict names options) (HuntWrites names options) files end heard new
+  pub ends : EndsAfterLoad (HuntVerdict names options) (HuntWrites names options) files end heard new
   pub passed : IfNoMemory end (hunt_image_check names options files ≡ None)
   pub silent : Silent heard new
 

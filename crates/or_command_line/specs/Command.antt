@@ -14,94 +14,94 @@ use Rattle.or_command_line.specs.Settings.{run_options_of, hunt_options_of, stay
 use Rattle.or_command_line.specs.Workloads.{workload_of, FitsWorkload}
 
 -- a command as contracts see it
-pub data Shown : Type 0 where
-  run : Names → RunOptions → Shown
-  hunt : Names → HuntOptions → Shown
-  replay : Recorded → List ℕ → Shown
-  asm : List ℕ → List ℕ → Bool → Shown
-  dis : List ℕ → Shown
-  debug : Recorded → List ℕ → Shown
-  gen : Workload → List ℕ → Shown
-  bench : Workload → List ℕ → ℕ → Shown
-  back : Recorded → List ℕ → ℕ → Shown
-  race : Recorded → RaceOptions → Shown
-  prof : Recorded → Shown
+pub data CommandModel : Type 0 where
+  run : Names → RunOptions → CommandModel
+  hunt : Names → HuntOptions → CommandModel
+  replay : Recorded → List ℕ → CommandModel
+  asm : List ℕ → List ℕ → Bool → CommandModel
+  dis : List ℕ → CommandModel
+  debug : Recorded → List ℕ → CommandModel
+  gen : Workload → List ℕ → CommandModel
+  bench : Workload → List ℕ → ℕ → CommandModel
+  back : Recorded → List ℕ → ℕ → CommandModel
+  race : Recorded → RaceOptions → CommandModel
+  prof : Recorded → CommandModel
 
-abbrev pub run_with : Names → Option RunOptions → Option Shown
+abbrev pub run_with : Names → Option RunOptions → Option CommandModel
 run_with names None = None
 run_with names (Some options) = Some (run names options)
 
 -- `IMAGE INPUT SCHED REPORT [--cores N] [--budget N] [--ram N] [--pic latched] [--stay N] [--status]`
-abbrev pub run_where : Names → List (List ℕ) → Option Shown
+abbrev pub run_where : Names → List (List ℕ) → Option CommandModel
 run_where names options = if are_run_names names then run_with names (run_options_of options) else None
 
-unfoldable pub run_of : List (List ℕ) → Option Shown
+unfoldable pub run_of : List (List ℕ) → Option CommandModel
 run_of (image ∷ input ∷ schedule ∷ report ∷ options) = run_where (record { image = image; input = input; schedule = schedule; report = report }) options
 run_of _ = None
 
-abbrev pub hunt_with : Names → Option HuntOptions → Option Shown
+abbrev pub hunt_with : Names → Option HuntOptions → Option CommandModel
 hunt_with names None = None
 hunt_with names (Some options) = Some (hunt names options)
 
 -- `IMAGE INPUT SCHED REPORT [--cores N] [--budget N] [--ram N] [--pic latched] [--seed N] [--tries N]`
-abbrev pub hunt_where : Names → List (List ℕ) → Option Shown
+abbrev pub hunt_where : Names → List (List ℕ) → Option CommandModel
 hunt_where names options = if are_run_names names then hunt_with names (hunt_options_of options) else None
 
-unfoldable pub hunt_of : List (List ℕ) → Option Shown
+unfoldable pub hunt_of : List (List ℕ) → Option CommandModel
 hunt_of (image ∷ input ∷ schedule ∷ report ∷ options) = hunt_where (record { image = image; input = input; schedule = schedule; report = report }) options
 hunt_of _ = None
 
 -- `IMAGE INPUT SCHED REPORT`
-abbrev pub replay_where : Recorded → List ℕ → Option Shown
+abbrev pub replay_where : Recorded → List ℕ → Option CommandModel
 replay_where files report = if are_recorded files && is_report files report then Some (replay files report) else None
 
-unfoldable pub replay_of : List (List ℕ) → Option Shown
+unfoldable pub replay_of : List (List ℕ) → Option CommandModel
 replay_of (image ∷ input ∷ schedule ∷ report ∷ []) = replay_where (record { image = image; input = input; schedule = schedule }) report
 replay_of _ = None
 
 -- `SRC IMAGE [--symbols]`
-abbrev pub asm_where : List ℕ → List ℕ → Option Bool → Option Shown
+abbrev pub asm_where : List ℕ → List ℕ → Option Bool → Option CommandModel
 asm_where source image None = None
 asm_where source image (Some symbols) = if (is_name source && is_name image) && differ image source then Some (asm source image symbols) else None
 
-unfoldable pub asm_of : List (List ℕ) → Option Shown
+unfoldable pub asm_of : List (List ℕ) → Option CommandModel
 asm_of (source ∷ image ∷ options) = asm_where source image (symbols_alone_of options)
 asm_of _ = None
 
 -- `IMAGE`
-unfoldable pub dis_of : List (List ℕ) → Option Shown
+unfoldable pub dis_of : List (List ℕ) → Option CommandModel
 dis_of (image ∷ []) = if is_name image then Some (dis image) else None
 dis_of _ = None
 
 -- `IMAGE INPUT SCHED SCRIPT`
-abbrev pub debug_where : Recorded → List ℕ → Option Shown
+abbrev pub debug_where : Recorded → List ℕ → Option CommandModel
 debug_where files script = if are_recorded files && is_name script then Some (debug files script) else None
 
-unfoldable pub debug_of : List (List ℕ) → Option Shown
+unfoldable pub debug_of : List (List ℕ) → Option CommandModel
 debug_of (image ∷ input ∷ schedule ∷ script ∷ []) = debug_where (record { image = image; input = input; schedule = schedule }) script
 debug_of _ = None
 
 -- `IMAGE INPUT SCHED SCRIPT [--every N]`
-abbrev pub back_with : Recorded → List ℕ → Option ℕ → Option Shown
+abbrev pub back_with : Recorded → List ℕ → Option ℕ → Option CommandModel
 back_with files script None = None
 back_with files script (Some every) = Some (back files script every)
 
-abbrev pub back_where : Recorded → List ℕ → List (List ℕ) → Option Shown
+abbrev pub back_where : Recorded → List ℕ → List (List ℕ) → Option CommandModel
 back_where files script options = if are_recorded files && is_name script then back_with files script (every_of options) else None
 
-unfoldable pub back_of : List (List ℕ) → Option Shown
+unfoldable pub back_of : List (List ℕ) → Option CommandModel
 back_of (image ∷ input ∷ schedule ∷ script ∷ options) = back_where (record { image = image; input = input; schedule = schedule }) script options
 back_of _ = None
 
 -- `IMAGE INPUT SCHED [--locks] [--where]`
-abbrev pub race_with : Recorded → Option RaceOptions → Option Shown
+abbrev pub race_with : Recorded → Option RaceOptions → Option CommandModel
 race_with files None = None
 race_with files (Some options) = Some (race files options)
 
-abbrev pub race_where : Recorded → List (List ℕ) → Option Shown
+abbrev pub race_where : Recorded → List (List ℕ) → Option CommandModel
 race_where files options = if are_recorded files then race_with files (race_options_of options) else None
 
-unfoldable pub race_of : List (List ℕ) → Option Shown
+unfoldable pub race_of : List (List ℕ) → Option CommandModel
 race_of (image ∷ input ∷ schedule ∷ options) = race_where (record { image = image; input = input; schedule = schedule }) options
 race_of _ = None
 
@@ -113,34 +113,34 @@ unfoldable pub recorded_of : List (List ℕ) → Option Recorded
 recorded_of (image ∷ input ∷ schedule ∷ []) = recorded_where (record { image = image; input = input; schedule = schedule })
 recorded_of _ = None
 
-abbrev pub as_prof : Option Recorded → Option Shown
+abbrev pub as_prof : Option Recorded → Option CommandModel
 as_prof None = None
 as_prof (Some files) = Some (prof files)
 
 -- `SEED CORES ROUNDS SRC`
-abbrev pub gen_with : List ℕ → Option Workload → Option Shown
+abbrev pub gen_with : List ℕ → Option Workload → Option CommandModel
 gen_with source None = None
 gen_with source (Some workload) = if is_name source then Some (gen workload source) else None
 
-unfoldable pub gen_of : List (List ℕ) → Option Shown
+unfoldable pub gen_of : List (List ℕ) → Option CommandModel
 gen_of (seed ∷ cores ∷ rounds ∷ source ∷ []) = gen_with source (workload_of seed cores rounds)
 gen_of _ = None
 
 -- `SEED CORES ROUNDS SCHED [--stay N]`
-abbrev pub bench_where : List ℕ → Workload → Option ℕ → Option Shown
+abbrev pub bench_where : List ℕ → Workload → Option ℕ → Option CommandModel
 bench_where schedule workload None = None
 bench_where schedule workload (Some stay) = if is_name schedule then Some (bench workload schedule stay) else None
 
-abbrev pub bench_with : List ℕ → Option Workload → List (List ℕ) → Option Shown
+abbrev pub bench_with : List ℕ → Option Workload → List (List ℕ) → Option CommandModel
 bench_with schedule None options = None
 bench_with schedule (Some workload) options = bench_where schedule workload (stay_alone_of options)
 
-unfoldable pub bench_of : List (List ℕ) → Option Shown
+unfoldable pub bench_of : List (List ℕ) → Option CommandModel
 bench_of (seed ∷ cores ∷ rounds ∷ schedule ∷ options) = bench_with schedule (workload_of seed cores rounds) options
 bench_of _ = None
 
 -- the commands that run, write or read programs
-abbrev pub program_command : List ℕ → List (List ℕ) → Option Shown
+abbrev pub program_command : List ℕ → List (List ℕ) → Option CommandModel
 program_command verb words =
     if bytes_eq verb (codes "run") then run_of words else
     if bytes_eq verb (codes "hunt") then hunt_of words else
@@ -151,7 +151,7 @@ program_command verb words =
     None
 
 -- the command that the words are, or none: one on a recorded run, or one on a program
-unfoldable pub command_of : List (List ℕ) → Option Shown
+unfoldable pub command_of : List (List ℕ) → Option CommandModel
 command_of [] = None
 command_of (verb ∷ words) =
     if bytes_eq verb (codes "replay") then replay_of words else
@@ -162,7 +162,7 @@ command_of (verb ∷ words) =
     program_command verb words
 
 -- what the code's commands show
-abbrev pub shown_command : Command → Shown
+abbrev pub shown_command : Command → CommandModel
 shown_command (IsRun words) = run (run_names words) words.options
 shown_command (IsHunt words) = hunt (hunt_names words) words.options
 shown_command (IsReplay files report) = replay (recorded_names files) report.now
@@ -176,7 +176,7 @@ shown_command (IsRace files options) = race (recorded_names files) options
 shown_command (IsProf files) = prof (recorded_names files)
 
 -- the names of a command are names of files, the written ones differ from each other one, and its numbers are in their ranges
-abbrev pub AreNamesOf : Shown → Type 0
+abbrev pub AreNamesOf : CommandModel → Type 0
 AreNamesOf (run names options) = AreWritten names × Fits options.config × FitsStay options.stay
 AreNamesOf (hunt names options) = AreWritten names × Fits options.config × FitsHunt options
 AreNamesOf (replay files report) = AreRecorded files × IsReport files report

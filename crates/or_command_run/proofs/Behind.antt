@@ -38,9 +38,9 @@ long_before loads d e only long = record {
 }
 
 pub decided_behind : (loads : List Load) (verdict : List (List ℕ) → Option FailedCheck) (Writes : List (List ℕ) → List File → List ℕ → Type 0)
-    (Lacking : HostState → HostState → Type 0) (status : ℕ) (a d e : HostState)
-    → (Lacking a d → Lacking a e) → IsDecided loads verdict Writes Lacking status a d → OnlySays d e → IsDecided loads verdict Writes Lacking status a e
-decided_behind loads verdict Writes Lacking status a d e lacking decided only = record {
+    (OnNoMemory : HostState → HostState → Type 0) (status : ℕ) (a d e : HostState)
+    → (OnNoMemory a d → OnNoMemory a e) → IsDecided loads verdict Writes OnNoMemory status a d → OnlySays d e → IsDecided loads verdict Writes OnNoMemory status a e
+decided_behind loads verdict Writes OnNoMemory status a d e lacking decided only = record {
   by_files = λ files told sound. elim (decided.by_files files (told_before loads files d e only told) (λ rose. sound (subst (λ (n : ℕ). Rose a.faults n) (sym only.faults) rose))) [
     | inl is ↦ inl is
     | inr lacks ↦ inr (lacks.0, lacking lacks.1)

@@ -6,7 +6,7 @@ use Rattle.or_host.specs.HostState.{HostState}
 use Rattle.or_command.proofs.TellsLemmas.{same_refl, same_then, adds_none, adds_then, adds_then_prefix, prefix_longer, rose_after, no_fault_then}
 use Rattle.or_command_source.specs.declared.listing.ListStop.{ListStop}
 use Rattle.or_command_source.specs.declared.listing.ListStop.TheVariants.{Unwritten, NoMemory}
-use Rattle.or_command_source.specs.Listed.{Wrote, Breaks, SoFar}
+use Rattle.or_command_source.specs.Listed.{Wrote, StopsListing, SoFar}
 
 -- nothing yet
 pub begins : (whole : List ℕ) (a : HostState) → SoFar whole whole a a
@@ -44,7 +44,7 @@ written_until piece rest whole a b c so_far written =
 
 -- a piece that is not wholly written
 pub stops : (stop : ListStop) (piece rest whole : List ℕ) (a b c : HostState) → SoFar (piece ++ rest) whole a b
-    → Breaks stop piece b c → Breaks stop whole a c
+    → StopsListing stop piece b c → StopsListing stop whole a c
 stops Unwritten piece rest whole a b c so_far until = record {
   names = λ name. same_then (a.holds name) (b.holds name) (c.holds name) (so_far.wrote.names name) (until.names name);
   written = written_until piece rest whole a b c so_far until.written;

@@ -2,7 +2,7 @@
 use Rattle.std.specs.Prelude.{◌≡◌, ℕ, List, ◌++◌, Some, None, Result, Ok, Err}
 use Rattle.or_words.specs.declared.limits.TheConstants.{MOST_RAM_BYTES}
 use Rattle.or_elf.specs.Fault.{elf_fault}
-use Rattle.or_host.specs.declared.host.Deed.TheVariants.{Write}
+use Rattle.or_host.specs.declared.host.Operation.TheVariants.{Write}
 use Rattle.or_host.specs.Bytes.{Adds, AddsPrefix}
 use Rattle.or_host.specs.Told.{TellsSame, TellsStep}
 use Rattle.or_host.specs.HostState.{HostState}
@@ -30,13 +30,13 @@ pub record WroteUntilLack (text : List ℕ) (old new : HostState) : Type 0 where
   pub written : TellsStep (AddsPrefix text) old.written new.written
   pub no_fault : NoFault old new
 
-abbrev pub Breaks : ListStop → List ℕ → HostState → HostState → Type 0
-Breaks Unwritten text old new = WroteUntilFault text old new
-Breaks NoMemory text old new = WroteUntilLack text old new
+abbrev pub StopsListing : ListStop → List ℕ → HostState → HostState → Type 0
+StopsListing Unwritten text old new = WroteUntilFault text old new
+StopsListing NoMemory text old new = WroteUntilLack text old new
 
 abbrev pub Lists : {U : Type 0} → Result U ListStop → List ℕ → HostState → HostState → Type 0
 Lists (Ok _) text old new = Wrote text old new
-Lists (Err stop) text old new = Breaks stop text old new
+Lists (Err stop) text old new = StopsListing stop text old new
 
 -- part of a text was written, and this rest of it not yet
 pub record SoFar (rest whole : List ℕ) (old now : HostState) : Type 0 where

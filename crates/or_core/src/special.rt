@@ -7,7 +7,7 @@ ghost use Rattle.or_model.specs.SpecialAccess.{special, special_written};
 ghost use Rattle.or_model.specs.Counts.{SameCounts};
 
 use crate::state::Core;
-use or_parts::{Place, SprRoute};
+use or_parts::{PcState, SprRoute};
 use or_spr::route;
 
 impl Core {
@@ -16,7 +16,7 @@ impl Core {
         requires { spr_route n ≡ SprRoute.Own }
         ensures { result ≡ own_read (own_registers self.now) self.now.pc self.now.branch n }
     {
-        let at = Place {
+        let at = PcState {
             pc: self.pc,
             branch: self.branch,
         };

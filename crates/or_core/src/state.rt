@@ -11,7 +11,7 @@ ghost use Rattle.or_model.specs.Counts.{SameCounts, SameSettings};
 use or_icache::ICache;
 use or_model::Stop;
 use or_parts::status::{IEE, SM, TEE};
-use or_parts::{Cause, Place};
+use or_parts::{Cause, PcState};
 use or_spr::Sprs;
 use or_tick_pic::{Pic, Tick};
 use or_tlb::Tlb;
@@ -184,10 +184,10 @@ impl Core {
     /// The address of the next instruction and, where it stands in a delay slot, the destination of
     /// its jump.
     #[inline]
-    pub fn place(&self) -> Place
+    pub fn place(&self) -> PcState
         ensures { result ≡ record { pc = self.now.pc; branch = self.now.branch } }
     {
-        Place {
+        PcState {
             pc: self.pc,
             branch: self.branch,
         }
@@ -267,7 +267,7 @@ impl Core {
         ensures state { self.new ≡ exception_entry self.old cause }
         ensures counts { SameCounts self.old self.new }
     {
-        let at = Place {
+        let at = PcState {
             pc: self.pc,
             branch: self.branch,
         };

@@ -7,7 +7,7 @@ use Rattle.or_model.specs.World.{World, Access, Kind}
 use Rattle.or_model.specs.World.Kind.{Loads, Stores, Drops}
 use Rattle.or_model.specs.Caches.{held, brings, brings_by, ends, ends_by, is_cached_load, is_cached_load_by}
 use Rattle.or_bus.specs.Lines.{IsLineTold}
-use Rattle.or_debug.specs.Shown.{last_loaded, where_held, held_at}
+use Rattle.or_debug.specs.BoardText.{last_loaded, where_held, held_at}
 
 -- an address at which a line begins
 line_itself : (line : ℕ) → line % 32 ≡ 0 → line_of line ≡ line

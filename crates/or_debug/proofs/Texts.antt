@@ -5,7 +5,7 @@ use Rattle.or_bus.specs.Answers.{word_shown}
 use Rattle.or_parts.specs.Bits.{plus}
 use Rattle.or_model.specs.World.{Access}
 use Rattle.or_debug.specs.declared.turns.MadeTurn.{MadeTurn}
-use Rattle.or_debug.specs.Shown.{memory_text, word_line, index_lines, index_line, held_at, made_line, made_text}
+use Rattle.or_debug.specs.BoardText.{memory_text, word_line, index_lines, index_line, held_at, made_line, made_text}
 
 -- one word more
 pub memory_more : (ram : List ℕ) (place left : ℕ) → 0 < left → memory_text ram place left ≡ word_line place (word_shown ram place) ++ memory_text ram (plus place 4) (left - 1)

@@ -1,7 +1,7 @@
 pub mod Turns
 pub mod Points
 pub mod Hits
-pub mod Shown
+pub mod BoardText
 pub mod Session
 pub mod Standing
 pub mod Answers

@@ -9,7 +9,7 @@ use Rattle.or_model.specs.Turn.{Board}
 use Rattle.or_debug.specs.Turns.{after, turns_made, last_of}
 use Rattle.or_debug.specs.Points.{Points, no_points, with_break, with_watch, with_store}
 use Rattle.or_debug.specs.Hits.{hit_lines, first_hit}
-use Rattle.or_debug.specs.Shown.{registers_text, memory_text, lines_text, made_text}
+use Rattle.or_debug.specs.BoardText.{registers_text, memory_text, lines_text, made_text}
 
 -- the number of turns followed so far, and the points that were set
 pub record State : Type 0 where

@@ -7,7 +7,7 @@ ghost use Rattle.or_model.specs.Turn.{Board as BoardModel};
 ghost use Rattle.or_debug.specs.Session.{first_state};
 ghost use Rattle.or_debug.specs.Standing.{CanFollow, Reaches, IsMade, IsFollowed, Stands, IsAnswered, HasSeen, state_of};
 
-use crate::shown::{append_lines, append_memory, append_registers};
+use crate::board_text::{append_lines, append_memory, append_registers};
 use crate::stops::Stops;
 use crate::turns::{MadeTurn, append_last, make_turn};
 use circular_buffer::HeapCircularBuffer;

@@ -2,15 +2,15 @@
 #![tactic(auto)]
 
 mod answering;
+mod board_text;
 mod debugger;
 mod points;
-mod shown;
 mod stops;
 mod turns;
 
 pub use answering::session;
+pub use board_text::{append_lines, append_memory, append_registers};
 pub use debugger::append_turn;
 pub use or_script::{ScriptFault, check};
-pub use shown::{append_lines, append_memory, append_registers};
 pub use stops::Stops;
 pub use turns::{MadeTurn, append_made, make_turn};

@@ -3,7 +3,7 @@ ghost use Rattle.std.specs.Prelude.{◌≡◌, ◌+◌, ◌<◌, ◌++◌, OnOk,
 ghost use Rattle.or_model.specs.Turn.{Board as BoardModel};
 ghost use Rattle.or_debug.specs.Turns.{last_of, pc_of, stored_by, word_stored, stored_in};
 ghost use Rattle.or_debug.specs.Standing.{CanFollow, IsAfter, IsTurnMade};
-ghost use Rattle.or_debug.specs.Shown.{letter, made_line, made_text};
+ghost use Rattle.or_debug.specs.BoardText.{letter, made_line, made_text};
 
 use circular_buffer::HeapCircularBuffer;
 use or_bus::{Access, AccessKind};

@@ -6,7 +6,7 @@ use Rattle.std.proofs.lemmas.List.Elements.{All-nil, All-cons}
 use Rattle.or_elf.specs.declared.fault.ElfFault.{ElfFault}
 use Rattle.or_elf.specs.declared.segment.Segment.{Segment}
 use Rattle.or_elf.specs.Header.{segments}
-use Rattle.or_elf.specs.Fault.{or_else, length_fault, ident_fault, header_fault, table_fault, segment_fault, first_segment_fault, segments_fault, elf_fault, IsInside}
+use Rattle.or_elf.specs.Fault.{or_else, length_fault, ident_fault, header_fault, program_table_fault, segment_fault, first_segment_fault, segments_fault, elf_fault, IsInside}
 
 pub or_else_none : (first next : Option ElfFault) → or_else first next ≡ None → (first ≡ None) × (next ≡ None)
 or_else_none None next e = (refl, e)
@@ -33,5 +33,5 @@ inside_lem bytes ram sound =
     let past_length = or_else_none (length_fault bytes) _ sound in
     let past_ident = or_else_none (ident_fault bytes) _ past_length.1 in
     let past_header = or_else_none (header_fault bytes) _ past_ident.1 in
-    let past_table = or_else_none (table_fault bytes) _ past_header.1 in
+    let past_table = or_else_none (program_table_fault bytes) _ past_header.1 in
     segments_inside (length bytes) ram (segments bytes) past_table.1

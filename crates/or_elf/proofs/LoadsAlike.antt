@@ -5,7 +5,7 @@ use Rattle.or_elf.specs.declared.fault.ElfFault.{ElfFault}
 use Rattle.or_elf.specs.declared.fault.ElfFault.TheVariants.{BadIdent, BadHeader, Short}
 use Rattle.or_elf.specs.declared.segment.Segment.{Segment}
 use Rattle.or_elf.specs.Header.{word_at, table_start, header_count, header_start, is_load, segment_at, segments_among, segments}
-use Rattle.or_elf.specs.Fault.{or_else, first_difference, ident_fault, field_fault, header_fault, table_fault, segments_fault, elf_fault}
+use Rattle.or_elf.specs.Fault.{or_else, first_difference, ident_fault, field_fault, header_fault, program_table_fault, segments_fault, elf_fault}
 use Rattle.or_elf.specs.Placed.{place_segment, placed}
 use Rattle.or_elf.specs.Loading.{part, LoadsAlike}
 use Rattle.or_elf.proofs.Parts.{get_or-part, word_at-part, half_at-part}
@@ -108,8 +108,8 @@ header_fault_same xs ys same =
     (or_else_same _ _ _ _ (ap (λ value. field_fault 42 value 32) (half 42 (omega arith)))
     (ap (λ count. cond (nat_le count 64) None (Some (BadHeader 44 count))) (count_same xs ys same))))))
 
-table_fault_same : (xs ys : List ℕ) → LoadsAlike xs ys → table_fault xs ≡ table_fault ys
-table_fault_same xs ys same =
+program_table_fault_same : (xs ys : List ℕ) → LoadsAlike xs ys → program_table_fault xs ≡ program_table_fault ys
+program_table_fault_same xs ys same =
     let P = λ (start count size : ℕ). cond (count == 0) None (cond (nat_le (start + 32 * count) size) None (Some (Short size))) in
     ap (λ start. P start (header_count xs) (length xs)) (start_same xs ys same)
     ∙ ap (λ count. P (table_start ys) count (length xs)) (count_same xs ys same)
@@ -121,7 +121,7 @@ fault_same xs ys ram same =
     or_else_same _ _ _ _ (ap (λ size. cond (nat_lt size 52) (Some (Short size)) None) same.size)
     (or_else_same _ _ _ _ (ident_fault_same xs ys same)
     (or_else_same _ _ _ _ (header_fault_same xs ys same)
-    (or_else_same _ _ _ _ (table_fault_same xs ys same)
+    (or_else_same _ _ _ _ (program_table_fault_same xs ys same)
     (ap (λ size. segments_fault size ram (segments xs)) same.size ∙ ap (segments_fault (length ys) ram) (segments_same xs ys same)))))
 
 -- the same bytes are placed

@@ -59,8 +59,8 @@ header_fault bytes =
     (if nat_le (header_count bytes) 64 then None else Some (BadHeader 44 (header_count bytes)))))))
 
 -- fault 1 again: the program headers, if there are any, end within the file
-abbrev pub table_fault : List ℕ → Option ElfFault
-table_fault bytes =
+abbrev pub program_table_fault : List ℕ → Option ElfFault
+program_table_fault bytes =
     if header_count bytes == 0 then None
     else (if nat_le (table_start bytes + 32 * header_count bytes) (length bytes) then None else Some (Short (length bytes)))
 
@@ -86,7 +86,7 @@ elf_fault bytes ram =
     or_else (length_fault bytes)
     (or_else (ident_fault bytes)
     (or_else (header_fault bytes)
-    (or_else (table_fault bytes)
+    (or_else (program_table_fault bytes)
     (segments_fault (length bytes) ram (segments bytes)))))
 
 -- the segment's bytes lie in a file of so many bytes, and its memory in so much RAM

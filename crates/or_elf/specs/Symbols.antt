@@ -106,8 +106,8 @@ abbrev pub ends_within : ℕ → Section → Bool
 ends_within size section = nat_le (section.offset + section.size) size
 
 -- 2: the table has whole symbols and lies in the file, as does the section of their names
-abbrev pub table_fault : List ℕ → ℕ → Option SymFault
-table_fault bytes table = let section = section_at bytes table in
+abbrev pub symbol_table_fault : List ℕ → ℕ → Option SymFault
+symbol_table_fault bytes table = let section = section_at bytes table in
     if (section.size % 16 == 0) && ends_within (length bytes) section
     && nat_lt section.link (section_count bytes) && ends_within (length bytes) (linked bytes table)
     then None else Some (BadTable table)
@@ -132,7 +132,7 @@ names_fault names (function ∷ others) =
 
 abbrev pub contents_fault : List ℕ → Option ℕ → Option SymFault
 contents_fault bytes None = None
-contents_fault bytes (Some table) = or_else (table_fault bytes table) (names_fault (names_of bytes table) (functions_of bytes table))
+contents_fault bytes (Some table) = or_else (symbol_table_fault bytes table) (names_fault (names_of bytes table) (functions_of bytes table))
 
 -- the first fault of the symbols of a file
 unfoldable pub symbol_fault : List ℕ → Option SymFault

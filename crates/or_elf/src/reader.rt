@@ -3,7 +3,7 @@ ghost use Rattle.std.specs.Prelude.{◌≡◌, ◌≢◌, ◌≤◌, ◌<◌, �
 ghost use Rattle.std.specs.List.{All};
 ghost use Rattle.or_words.specs.declared.limits.TheConstants.{IMAGE_LIMIT};
 ghost use Rattle.or_elf.specs.Header.{half_at, word_at, table_start, header_count, header_start, segment_at, segments};
-ghost use Rattle.or_elf.specs.Fault.{elf_fault, length_fault, ident_fault, header_fault, table_fault, segment_fault, segments_fault, field_fault, IsInside};
+ghost use Rattle.or_elf.specs.Fault.{elf_fault, length_fault, ident_fault, header_fault, program_table_fault, segment_fault, segments_fault, field_fault, IsInside};
 
 use crate::fields::{half, word};
 use crate::{ElfFault, Image, Segment};
@@ -102,8 +102,8 @@ fn check_table(bytes: &[u8]) -> Result<(), ElfFault>
     requires short { length bytes.now ≤ IMAGE_LIMIT }
     requires count { header_count bytes.now ≤ 64 }
     ensures { MatchResult result
-        (λ _. (table_fault bytes.now ≡ None) × (0 < header_count bytes.now → table_start bytes.now + 32 * header_count bytes.now ≤ length bytes.now))
-        (λ fault. table_fault bytes.now ≡ Some fault) }
+        (λ _. (program_table_fault bytes.now ≡ None) × (0 < header_count bytes.now → table_start bytes.now + 32 * header_count bytes.now ≤ length bytes.now))
+        (λ fault. program_table_fault bytes.now ≡ Some fault) }
 {
     let count = usize::from(half(bytes, 44));
     if count == 0 {

@@ -2,7 +2,7 @@
 ghost use Rattle.std.specs.Prelude.{◌≡◌, ◌≤◌, ◌<◌, ◌+◌, ◌*◌, ◌/◌, ◌==◌, Some, None, length, MatchResult, IfSome, take, drop, ◌^◌};
 ghost use Rattle.or_words.specs.declared.limits.TheConstants.{IMAGE_LIMIT};
 ghost use Rattle.or_elf.specs.Header.{half_at, word_at};
-ghost use Rattle.or_elf.specs.Symbols.{sections_start, section_count, section_start, section_at, has_sections, symbol_table, linked, names_of, sections_fault, table_fault, ends_within, HasSections, HasTable};
+ghost use Rattle.or_elf.specs.Symbols.{sections_start, section_count, section_start, section_at, has_sections, symbol_table, linked, names_of, sections_fault, symbol_table_fault, ends_within, HasSections, HasTable};
 
 use crate::SymFault;
 use crate::fields::{half, word};
@@ -78,7 +78,7 @@ fn ends_within(size: usize, section: &Section) -> bool
 pub fn check_table(bytes: &[u8], table: u32) -> Result<(), SymFault>
     requires sections { HasSections bytes.now }
     requires index { table < section_count bytes.now }
-    ensures { MatchResult result (λ _. (table_fault bytes.now table ≡ None) × HasTable bytes.now table) (λ fault. table_fault bytes.now table ≡ Some fault) }
+    ensures { MatchResult result (λ _. (symbol_table_fault bytes.now table ≡ None) × HasTable bytes.now table) (λ fault. symbol_table_fault bytes.now table ≡ Some fault) }
 {
     let symbols = section_at(bytes, table);
     if !symbols.size.is_multiple_of(16)

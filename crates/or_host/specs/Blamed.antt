@@ -1,11 +1,11 @@
 -- Whom a host blames for its last fault.
 use Rattle.std.specs.Prelude.{ℕ, List}
-use Rattle.or_host.specs.declared.host.Deed.{Deed}
+use Rattle.or_host.specs.declared.host.Operation.{Operation}
 
 -- what was being done, and with which name
 pub record Blamed : Type 0 where
-  pub deed : Deed
+  pub operation : Operation
   pub name : List ℕ
 
-abbrev pub blamed : Deed → List ℕ → Blamed
-blamed deed name = record { deed = deed; name = name }
+abbrev pub blamed : Operation → List ℕ → Blamed
+blamed operation name = record { operation = operation; name = name }

@@ -3,13 +3,13 @@ ghost use Rattle.std.specs.Prelude.{◌≡◌, ◌≢◌, [], List, ℕ, None, v
 ghost use Rattle.or_host.specs.Counts.{LoadCounts, WriteCounts, SayCounts};
 ghost use Rattle.or_host.specs.Calls.{IsName, dash, Takes, Empties, Extends, Emits};
 ghost use Rattle.or_host.specs.Named.{Sends, LacksRoom};
-ghost use Rattle.or_host.specs.declared.host.Deed.{Deed};
+ghost use Rattle.or_host.specs.declared.host.Operation.{Operation};
 ghost use Rattle.or_host.specs.Blamed.{blamed};
 ghost use Rattle.or_host.specs.Told.{TellsSame};
 
 use crate::blame::note;
 use crate::whole::{append_whole, load_named, write_whole};
-use crate::{Blame, Deed, Failed, Host, LoadFail, NamedFiles};
+use crate::{Blame, Failed, Host, LoadFail, NamedFiles, Operation};
 use std::io::{Stderr, Stdout, Write};
 
 /// Named files, a writer for what is written out, and one for what is said.
@@ -71,13 +71,13 @@ impl<F: NamedFiles + Drop, O: Write + Drop, E: Write + Drop> Host for FileHost<F
         ensures names { (other : List ℕ) → TellsSame ((files_state F.holds self.old).holds other) ((files_state F.holds self.new).holds other) }
         ensures written { TellsSame ((files_state F.holds self.old).written) ((files_state F.holds self.new).written) }
         ensures said { TellsSame ((files_state F.holds self.old).said) ((files_state F.holds self.new).said) }
-        ensures counts { LoadCounts result (blamed Deed.Load name.now) (files_state F.holds self.old) (files_state F.holds self.new) }
+        ensures counts { LoadCounts result (blamed Operation.Load name.now) (files_state F.holds self.old) (files_state F.holds self.new) }
         ensures full { LacksRoom result (vec_capacity into.old) into.new.items }
         ensures writers { KeepsWriters self.old self.new }
     {
         match load_named(&mut self.files, name, max, into) {
             Err(LoadFail::Failed) => {
-                note(&mut self.faults, &mut self.blame, Deed::Load, name);
+                note(&mut self.faults, &mut self.blame, Operation::Load, name);
                 Err(LoadFail::Failed)
             }
             Err(LoadFail::NoMemory) => {
@@ -94,13 +94,13 @@ impl<F: NamedFiles + Drop, O: Write + Drop, E: Write + Drop> Host for FileHost<F
         ensures others { (other : List ℕ) → other ≢ name.now → TellsSame ((files_state F.holds self.old).holds other) ((files_state F.holds self.new).holds other) }
         ensures written { TellsSame ((files_state F.holds self.old).written) ((files_state F.holds self.new).written) }
         ensures said { TellsSame ((files_state F.holds self.old).said) ((files_state F.holds self.new).said) }
-        ensures counts { WriteCounts result (blamed Deed.Write name.now) (files_state F.holds self.old) (files_state F.holds self.new) }
+        ensures counts { WriteCounts result (blamed Operation.Write name.now) (files_state F.holds self.old) (files_state F.holds self.new) }
         ensures writers { KeepsWriters self.old self.new }
     {
         match self.files.create(name) {
             Ok(()) => Ok(()),
             Err(_) => {
-                note(&mut self.faults, &mut self.blame, Deed::Write, name);
+                note(&mut self.faults, &mut self.blame, Operation::Write, name);
                 Err(Failed)
             }
         }
@@ -112,13 +112,13 @@ impl<F: NamedFiles + Drop, O: Write + Drop, E: Write + Drop> Host for FileHost<F
         ensures others { (other : List ℕ) → other ≢ name.now → TellsSame ((files_state F.holds self.old).holds other) ((files_state F.holds self.new).holds other) }
         ensures written { TellsSame ((files_state F.holds self.old).written) ((files_state F.holds self.new).written) }
         ensures said { TellsSame ((files_state F.holds self.old).said) ((files_state F.holds self.new).said) }
-        ensures counts { WriteCounts result (blamed Deed.Write name.now) (files_state F.holds self.old) (files_state F.holds self.new) }
+        ensures counts { WriteCounts result (blamed Operation.Write name.now) (files_state F.holds self.old) (files_state F.holds self.new) }
         ensures writers { KeepsWriters self.old self.new }
     {
         match append_whole(&mut self.files, name, bytes) {
             Ok(()) => Ok(()),
             Err(_) => {
-                note(&mut self.faults, &mut self.blame, Deed::Write, name);
+                note(&mut self.faults, &mut self.blame, Operation::Write, name);
                 Err(Failed)
             }
         }
@@ -128,14 +128,14 @@ impl<F: NamedFiles + Drop, O: Write + Drop, E: Write + Drop> Host for FileHost<F
         ensures names { (other : List ℕ) → TellsSame ((files_state F.holds self.old).holds other) ((files_state F.holds self.new).holds other) }
         ensures written { Emits result bytes.now ((files_state F.holds self.old).written) ((files_state F.holds self.new).written) }
         ensures said { TellsSame ((files_state F.holds self.old).said) ((files_state F.holds self.new).said) }
-        ensures counts { WriteCounts result (blamed Deed.Write dash) (files_state F.holds self.old) (files_state F.holds self.new) }
+        ensures counts { WriteCounts result (blamed Operation.Write dash) (files_state F.holds self.old) (files_state F.holds self.new) }
         ensures sent { Sends result bytes.now (O.contents self.old.out) (O.contents self.new.out) }
         ensures err { self.new.err ≡ self.old.err }
     {
         match write_whole(&mut self.out, bytes) {
             Ok(()) => Ok(()),
             Err(_) => {
-                note(&mut self.faults, &mut self.blame, Deed::Write, "-");
+                note(&mut self.faults, &mut self.blame, Operation::Write, "-");
                 Err(Failed)
             }
         }

@@ -1,6 +1,6 @@
 // The trait that a command's outside meets, with its faults and their blame.
 ghost use Rattle.std.specs.Prelude.{◌≡◌, ◌≢◌, [], List, ℕ};
-ghost use Rattle.or_host.specs.declared.host.Deed.{Deed};
+ghost use Rattle.or_host.specs.declared.host.Operation.{Operation};
 ghost use Rattle.or_host.specs.Blamed.{blamed};
 ghost use Rattle.or_host.specs.Told.{TellsSame};
 ghost use Rattle.or_host.specs.Counts.{LoadCounts, WriteCounts, SayCounts};
@@ -31,7 +31,7 @@ pub struct Failed;
 
 /// What was being done when a fault came.
 #[derive(Clone, Copy, Debug, PartialEq, Eq)]
-pub enum Deed {
+pub enum Operation {
     /// A file was being read.
     Load,
     /// A file or standard output was being written.
@@ -41,7 +41,7 @@ pub enum Deed {
 /// What was being done at the last fault, and with which name: `-` for standard output.
 #[derive(Drop)]
 pub struct Blame {
-    pub deed: Deed,
+    pub operation: Operation,
     pub name: ArrayString<4095>,
 }
 
@@ -50,7 +50,7 @@ impl Model for Blame {
 
     ghost Value = { Blamed };
 
-    ghost view = { λ b. record { deed = b.deed; name = b.name.bytes } };
+    ghost view = { λ b. record { operation = b.operation; name = b.name.bytes } };
 }
 
 /// Files by name, standard output, and a place where faults are said.
@@ -72,7 +72,7 @@ pub trait Host {
         ensures names { (other : List ℕ) → TellsSame ((state self.old).holds other) ((state self.new).holds other) }
         ensures written { TellsSame ((state self.old).written) ((state self.new).written) }
         ensures said { TellsSame ((state self.old).said) ((state self.new).said) }
-        ensures counts { LoadCounts result (blamed Deed.Load name.now) (state self.old) (state self.new) };
+        ensures counts { LoadCounts result (blamed Operation.Load name.now) (state self.old) (state self.new) };
 
     /// Makes a name hold nothing. A failure leaves it as it was.
     fn create(&mut self, name: &str) -> Result<(), Failed>
@@ -81,7 +81,7 @@ pub trait Host {
         ensures others { (other : List ℕ) → other ≢ name.now → TellsSame ((state self.old).holds other) ((state self.new).holds other) }
         ensures written { TellsSame ((state self.old).written) ((state self.new).written) }
         ensures said { TellsSame ((state self.old).said) ((state self.new).said) }
-        ensures counts { WriteCounts result (blamed Deed.Write name.now) (state self.old) (state self.new) };
+        ensures counts { WriteCounts result (blamed Operation.Write name.now) (state self.old) (state self.new) };
 
     /// Adds bytes to what a name holds. A failure adds a prefix of them.
     fn append(&mut self, name: &str, bytes: &[u8]) -> Result<(), Failed>
@@ -90,14 +90,14 @@ pub trait Host {
         ensures others { (other : List ℕ) → other ≢ name.now → TellsSame ((state self.old).holds other) ((state self.new).holds other) }
         ensures written { TellsSame ((state self.old).written) ((state self.new).written) }
         ensures said { TellsSame ((state self.old).said) ((state self.new).said) }
-        ensures counts { WriteCounts result (blamed Deed.Write name.now) (state self.old) (state self.new) };
+        ensures counts { WriteCounts result (blamed Operation.Write name.now) (state self.old) (state self.new) };
 
     /// Adds bytes to standard output. A failure adds a prefix of them.
     fn out(&mut self, bytes: &[u8]) -> Result<(), Failed>
         ensures names { (other : List ℕ) → TellsSame ((state self.old).holds other) ((state self.new).holds other) }
         ensures written { Emits result bytes.now ((state self.old).written) ((state self.new).written) }
         ensures said { TellsSame ((state self.old).said) ((state self.new).said) }
-        ensures counts { WriteCounts result (blamed Deed.Write dash) (state self.old) (state self.new) };
+        ensures counts { WriteCounts result (blamed Operation.Write dash) (state self.old) (state self.new) };
 
     /// Adds bytes to what is said. A failure adds a prefix of them, and counts for itself.
     fn say(&mut self, bytes: &[u8]) -> Result<(), Failed>

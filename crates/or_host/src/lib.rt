@@ -11,7 +11,7 @@ mod sure;
 mod whole;
 
 pub use files::FileHost;
-pub use host::{Blame, Deed, Failed, Host, LoadFail};
+pub use host::{Blame, Failed, Host, LoadFail, Operation};
 pub use memory::MemHost;
 pub use named::NamedFiles;
 pub use sure::SureHost;

@@ -4,13 +4,13 @@ ghost use Rattle.std.specs.List.{list_any};
 ghost use Rattle.std.specs.Option.{option_copied};
 ghost use Rattle.or_host.specs.Counts.{raised, LoadCounts, WriteCounts, SayCounts};
 ghost use Rattle.or_host.specs.Calls.{IsName, dash, Takes, Empties, Extends, Emits};
-ghost use Rattle.or_host.specs.declared.host.Deed.{Deed};
+ghost use Rattle.or_host.specs.declared.host.Operation.{Operation};
 ghost use Rattle.or_host.specs.Blamed.{blamed};
 ghost use Rattle.or_host.specs.Told.{TellsSame};
 
 use crate::blame::note;
 use crate::store::{emit, empty_file, grow_file, load_bytes, put_file};
-use crate::{Blame, Deed, Failed, Host, LoadFail};
+use crate::{Blame, Failed, Host, LoadFail, Operation};
 use or_words::NoMemory;
 use std::alloc::Global;
 use std::collections::BTreeMap;
@@ -109,14 +109,14 @@ impl Host for MemHost {
         ensures names { (other : List ℕ) → TellsSame ((memory_state self.old).holds other) ((memory_state self.new).holds other) }
         ensures written { TellsSame ((memory_state self.old).written) ((memory_state self.new).written) }
         ensures said { TellsSame ((memory_state self.old).said) ((memory_state self.new).said) }
-        ensures counts { LoadCounts result (blamed Deed.Load name.now) (memory_state self.old) (memory_state self.new) }
+        ensures counts { LoadCounts result (blamed Operation.Load name.now) (memory_state self.old) (memory_state self.new) }
         ensures exact { LoadsListed (is_listed self.old) (file_of self.old name.now) max (vec_capacity into.old) result into.new.items }
         ensures counted { CountsCall self.old self.new }
     {
         let listed = next_is_listed(&self.failing, &mut self.calls);
         let result = load_bytes(&self.files, listed, name, max, into);
         if matches!(result, Err(LoadFail::Failed)) {
-            note(&mut self.faults, &mut self.blame, Deed::Load, name);
+            note(&mut self.faults, &mut self.blame, Operation::Load, name);
         } else if matches!(result, Err(LoadFail::NoMemory)) {
             self.lacks = self.lacks.saturating_add(1);
         }
@@ -129,7 +129,7 @@ impl Host for MemHost {
         ensures others { (other : List ℕ) → other ≢ name.now → TellsSame ((memory_state self.old).holds other) ((memory_state self.new).holds other) }
         ensures written { TellsSame ((memory_state self.old).written) ((memory_state self.new).written) }
         ensures said { TellsSame ((memory_state self.old).said) ((memory_state self.new).said) }
-        ensures counts { WriteCounts result (blamed Deed.Write name.now) (memory_state self.old) (memory_state self.new) }
+        ensures counts { WriteCounts result (blamed Operation.Write name.now) (memory_state self.old) (memory_state self.new) }
         ensures exact { CreatesListed (is_listed self.old) (is_ok result) (file_of self.old name.now) (file_of self.new name.now) }
         ensures counted { CountsCall self.old self.new }
     {
@@ -137,7 +137,7 @@ impl Host for MemHost {
         if !listed && empty_file(self.alloc, &mut self.files, name) {
             return Ok(());
         }
-        note(&mut self.faults, &mut self.blame, Deed::Write, name);
+        note(&mut self.faults, &mut self.blame, Operation::Write, name);
         Err(Failed)
     }
 
@@ -147,7 +147,7 @@ impl Host for MemHost {
         ensures others { (other : List ℕ) → other ≢ name.now → TellsSame ((memory_state self.old).holds other) ((memory_state self.new).holds other) }
         ensures written { TellsSame ((memory_state self.old).written) ((memory_state self.new).written) }
         ensures said { TellsSame ((memory_state self.old).said) ((memory_state self.new).said) }
-        ensures counts { WriteCounts result (blamed Deed.Write name.now) (memory_state self.old) (memory_state self.new) }
+        ensures counts { WriteCounts result (blamed Operation.Write name.now) (memory_state self.old) (memory_state self.new) }
         ensures exact { AppendsListed (is_listed self.old) (file_room self.old name.now) bytes.now (is_ok result) (file_of self.old name.now) (file_of self.new name.now) }
         ensures counted { CountsCall self.old self.new }
     {
@@ -155,7 +155,7 @@ impl Host for MemHost {
         if grow_file(&mut self.files, listed, name, bytes) {
             return Ok(());
         }
-        note(&mut self.faults, &mut self.blame, Deed::Write, name);
+        note(&mut self.faults, &mut self.blame, Operation::Write, name);
         Err(Failed)
     }
 
@@ -163,7 +163,7 @@ impl Host for MemHost {
         ensures names { (other : List ℕ) → TellsSame ((memory_state self.old).holds other) ((memory_state self.new).holds other) }
         ensures written { Emits result bytes.now ((memory_state self.old).written) ((memory_state self.new).written) }
         ensures said { TellsSame ((memory_state self.old).said) ((memory_state self.new).said) }
-        ensures counts { WriteCounts result (blamed Deed.Write dash) (memory_state self.old) (memory_state self.new) }
+        ensures counts { WriteCounts result (blamed Operation.Write dash) (memory_state self.old) (memory_state self.new) }
         ensures exact { GrowsListed (is_listed self.old) (out_room self.old) bytes.now (is_ok result) (bytes_out self.old) (bytes_out self.new) }
         ensures counted { CountsCall self.old self.new }
     {
@@ -171,7 +171,7 @@ impl Host for MemHost {
         if emit(&mut self.written, listed, bytes) {
             return Ok(());
         }
-        note(&mut self.faults, &mut self.blame, Deed::Write, "-");
+        note(&mut self.faults, &mut self.blame, Operation::Write, "-");
         Err(Failed)
     }
 

@@ -4,7 +4,7 @@ ghost use Rattle.or_host.specs.Given.{given};
 ghost use Rattle.or_host.specs.Failing.{LoadsBytes};
 ghost use Rattle.or_host.specs.Counts.{LoadCounts, WriteCounts, SayCounts};
 ghost use Rattle.or_host.specs.Calls.{IsName, dash, Takes, Empties, Extends, Emits};
-ghost use Rattle.or_host.specs.declared.host.Deed.{Deed};
+ghost use Rattle.or_host.specs.declared.host.Operation.{Operation};
 ghost use Rattle.or_host.specs.Blamed.{blamed};
 ghost use Rattle.or_host.specs.Told.{TellsSame};
 
@@ -43,7 +43,7 @@ impl Host for SureHost {
         ensures names { (other : List ℕ) → TellsSame ((sure_state self.old).holds other) ((sure_state self.new).holds other) }
         ensures written { TellsSame ((sure_state self.old).written) ((sure_state self.new).written) }
         ensures said { TellsSame ((sure_state self.old).said) ((sure_state self.new).said) }
-        ensures counts { LoadCounts result (blamed Deed.Load name.now) (sure_state self.old) (sure_state self.new) }
+        ensures counts { LoadCounts result (blamed Operation.Load name.now) (sure_state self.old) (sure_state self.new) }
         ensures exact { LoadsBytes (unwrap_or (sure_files self.old name.now) []) max (vec_capacity into.old) result into.new.items }
         ensures keeps { Keeps self.old self.new }
     {
@@ -65,7 +65,7 @@ impl Host for SureHost {
         ensures others { (other : List ℕ) → other ≢ name.now → TellsSame ((sure_state self.old).holds other) ((sure_state self.new).holds other) }
         ensures written { TellsSame ((sure_state self.old).written) ((sure_state self.new).written) }
         ensures said { TellsSame ((sure_state self.old).said) ((sure_state self.new).said) }
-        ensures counts { WriteCounts result (blamed Deed.Write name.now) (sure_state self.old) (sure_state self.new) }
+        ensures counts { WriteCounts result (blamed Operation.Write name.now) (sure_state self.old) (sure_state self.new) }
         ensures done { IsOk result }
         ensures forgets { Forgets name.now self.old self.new }
     {
@@ -79,7 +79,7 @@ impl Host for SureHost {
         ensures others { (other : List ℕ) → other ≢ name.now → TellsSame ((sure_state self.old).holds other) ((sure_state self.new).holds other) }
         ensures written { TellsSame ((sure_state self.old).written) ((sure_state self.new).written) }
         ensures said { TellsSame ((sure_state self.old).said) ((sure_state self.new).said) }
-        ensures counts { WriteCounts result (blamed Deed.Write name.now) (sure_state self.old) (sure_state self.new) }
+        ensures counts { WriteCounts result (blamed Operation.Write name.now) (sure_state self.old) (sure_state self.new) }
         ensures done { IsOk result }
         ensures forgets { Forgets name.now self.old self.new }
     {
@@ -91,7 +91,7 @@ impl Host for SureHost {
         ensures names { (other : List ℕ) → TellsSame ((sure_state self.old).holds other) ((sure_state self.new).holds other) }
         ensures written { Emits result _bytes.now ((sure_state self.old).written) ((sure_state self.new).written) }
         ensures said { TellsSame ((sure_state self.old).said) ((sure_state self.new).said) }
-        ensures counts { WriteCounts result (blamed Deed.Write dash) (sure_state self.old) (sure_state self.new) }
+        ensures counts { WriteCounts result (blamed Operation.Write dash) (sure_state self.old) (sure_state self.new) }
         ensures done { IsOk result }
         ensures keeps { Keeps self.old self.new }
     {

@@ -3,7 +3,7 @@ use Rattle.std.specs.Prelude.{ℕ, ◌≤◌, ◌≡◌, Bool, false, List, [], 
 use Rattle.or_words.specs.declared.Width.{Width}
 use Rattle.or_parts.specs.Memory.{stored, word_address}
 use Rattle.or_parts.specs.Lines.{line_of}
-use Rattle.or_parts.specs.Reservation.{Mark, stands_by}
+use Rattle.or_parts.specs.Reservation.{ReservationMark, stands_by}
 use Rattle.or_parts.specs.Devices.{Devices, reset_devices, served_cores}
 
 pub data Kind : Type 0 where
@@ -25,7 +25,7 @@ pub record World : Type 0 where
   -- each access to RAM, the newest first
   pub accesses : List Access
   -- what each core reserved last, if it has not been used up
-  pub marks : List (Option Mark)
+  pub marks : List (Option ReservationMark)
   pub devices : Devices
 
 -- a world in which nothing has happened

@@ -26,7 +26,7 @@ pub enum Cause {
 
 /// Where a core stands.
 #[derive(Clone, Copy, Debug, PartialEq, Eq)]
-pub struct Place {
+pub struct PcState {
     /// The address of the next instruction.
     pub pc: u32,
     /// Where that instruction stands in a delay slot, the destination of its jump.

@@ -8,7 +8,7 @@ use Rattle.or_elf.specs.Symbols.{SymbolTable}
 use Rattle.or_race.specs.declared.line.Line.{Line}
 use Rattle.or_race.specs.Event.{Event}
 use Rattle.or_race.specs.Race.{Race, IsData, IsFirst, IsReported, HasLine}
-use Rattle.or_race.specs.Text.{report_text, RaceText}
+use Rattle.or_race.specs.Text.{race_report_text, RaceText}
 use Rattle.or_race.proofs.Places.{same_at}
 
 abbrev words_of : List Line → List ℕ
@@ -81,6 +81,6 @@ module _ (locks : Bool) where
       ap (λ z. z ∷ xs) (one_line es x y p.0.0 q.0.0 same) ∙ ap (λ zs. y ∷ zs) tails
 
   pub one_text : (symbols : Option SymbolTable) (es : List Event) (a b : List ℕ) → RaceText locks symbols es a → RaceText locks symbols es b → a ≡ b
-  one_text symbols es a b p q = p.text_is ∙ ap (report_text locks symbols) (same_lines es p.lines q.lines p.report.sorted q.report.sorted p.report.each q.report.each
+  one_text symbols es a b p q = p.text_is ∙ ap (race_report_text locks symbols) (same_lines es p.lines q.lines p.report.sorted q.report.sorted p.report.each q.report.each
       (λ w h. races es w p.lines q.lines p.report.each q.report.all h)
       (λ w h. races es w q.lines p.lines q.report.each p.report.all h)) ∙ sym q.text_is

@@ -38,11 +38,11 @@ head_text false = codes "orrace 1\n"
 head_text true = codes "orrace 1 locks\n"
 
 -- the lines between the first and the last, which counts them
-abbrev pub report_text : Bool → Option SymbolTable → List Line → List ℕ
-report_text locks symbols lines = head_text locks ++ lines_text symbols lines ++ codes "races " ++ decimal (length lines) ++ codes "\n"
+abbrev pub race_report_text : Bool → Option SymbolTable → List Line → List ℕ
+race_report_text locks symbols lines = head_text locks ++ lines_text symbols lines ++ codes "races " ++ decimal (length lines) ++ codes "\n"
 
 -- THE REPORT on a list of events, with or without locks, and with the places of the accesses where symbols are given
 pub record RaceText (locks : Bool) (symbols : Option SymbolTable) (es : List Event) (text : List ℕ) : Type 0 where
   pub lines : List Line
   pub report : IsReport locks es lines
-  pub text_is : text ≡ report_text locks symbols lines
+  pub text_is : text ≡ race_report_text locks symbols lines

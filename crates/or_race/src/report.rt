@@ -5,7 +5,7 @@ ghost use Rattle.or_race.specs.Event.{Event};
 ghost use Rattle.or_race.specs.Lines.{reported_line, found_lines};
 ghost use Rattle.or_race.specs.Records.{Records};
 ghost use Rattle.or_elf.specs.Symbols.{SymbolTable};
-ghost use Rattle.or_race.specs.Text.{letter, access_text, pc_text, places_text, line_text, lines_text, head_text, report_text, RaceText};
+ghost use Rattle.or_race.specs.Text.{letter, access_text, pc_text, places_text, line_text, lines_text, head_text, race_report_text, RaceText};
 
 use crate::line::Line;
 use crate::races::Races;
@@ -122,7 +122,7 @@ fn append_report(
     words: &BTreeMap<u32, Word>,
     out: &mut Vec<u8>,
 ) -> Result<(), AllocError>
-    ensures { OnOk result (out.new.items ≡ out.old.items ++ report_text locks symbols.now (found_lines locks (values words.now))) }
+    ensures { OnOk result (out.new.items ≡ out.old.items ++ race_report_text locks symbols.now (found_lines locks (values words.now))) }
 {
     append_head(locks, out)?;
     let count = append_lines(locks, symbols, words, out)?;
@@ -138,7 +138,7 @@ fn report(
     symbols: &Option<Symbols>,
     words: &BTreeMap<u32, Word>,
 ) -> Result<Vec<u8>, AllocError>
-    ensures { IfOk result (λ text. text.items ≡ report_text locks symbols.now (found_lines locks (values words.now))) }
+    ensures { IfOk result (λ text. text.items ≡ race_report_text locks symbols.now (found_lines locks (values words.now))) }
 {
     let mut text = Vec::new(alloc);
     append_report(locks, symbols, words, &mut text)?;

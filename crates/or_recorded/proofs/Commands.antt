@@ -6,7 +6,7 @@ use Rattle.or_command.specs.Loads.{Load}
 use Rattle.or_command.specs.Writes.{File}
 use Rattle.or_command.specs.Ends.{FailedCheck, CommandEnd}
 use Rattle.or_command.specs.Outcomes.{AreApart}
-use Rattle.or_command.specs.Finishing.{GoesOn, end_of_check}
+use Rattle.or_command.specs.Finishing.{EndsAfterLoad, end_of_check}
 use Rattle.or_command_line.specs.Names.{Recorded, IsReport}
 use Rattle.or_words.specs.declared.limits.TheConstants.{INPUT_LIMIT, RECORDING_LIMIT}
 use Rattle.or_command_image.specs.Loaded.{is_no_input}
@@ -55,12 +55,12 @@ module _ (fault : Run → Option OwnFault) (Makes : Run → List ℕ → List �
   fails files (Own own) check told is = inr (record { run = is.run; is = is.is; own = own; fails = told_fails own (fault is.run) check told is.fails; told = told })
 
   ends_by : (read : List (List ℕ)) (f : Fault) (found : Option FailedCheck) (end : CommandEnd) (b : HostState) → told_check names f ≡ found
-      → IsFault fault Makes (files_in names read) f → end ≡ end_of_check found → GoesOn (Verdict fault Makes names) (Writes fault Makes names) read end b b
-  ends_by read f None end b told is same = subst (λ (e : CommandEnd). GoesOn (Verdict fault Makes names) (Writes fault Makes names) read e b b) (sym same) refl
+      → IsFault fault Makes (files_in names read) f → end ≡ end_of_check found → EndsAfterLoad (Verdict fault Makes names) (Writes fault Makes names) read end b b
+  ends_by read f None end b told is same = subst (λ (e : CommandEnd). EndsAfterLoad (Verdict fault Makes names) (Writes fault Makes names) read e b b) (sym same) refl
   ends_by read f (Some check) end b told is same =
-      subst (λ (e : CommandEnd). GoesOn (Verdict fault Makes names) (Writes fault Makes names) read e b b) (sym same) (fails (files_in names read) f check told is, refl)
+      subst (λ (e : CommandEnd). EndsAfterLoad (Verdict fault Makes names) (Writes fault Makes names) read e b b) (sym same) (fails (files_in names read) f check told is, refl)
 
   pub refused_ends : (read : List (List ℕ)) (files : Files) (f : Fault) (end : CommandEnd) (b : HostState) → files ≡ files_in names read
-      → IsFault fault Makes files f → end ≡ end_of_check (told_check names f) → GoesOn (Verdict fault Makes names) (Writes fault Makes names) read end b b
+      → IsFault fault Makes files f → end ≡ end_of_check (told_check names f) → EndsAfterLoad (Verdict fault Makes names) (Writes fault Makes names) read end b b
   refused_ends read files f end b same is ends =
       ends_by read f (told_check names f) end b refl (subst (λ (x : Files). IsFault fault Makes x f) same is) ends

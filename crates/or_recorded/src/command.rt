@@ -8,7 +8,7 @@ ghost use Rattle.or_bus.specs.State.{BusState};
 ghost use Rattle.or_model.specs.Core.{Core as CoreModel};
 ghost use Rattle.or_command.specs.Leaves.{Silent};
 ghost use Rattle.or_command.specs.Ends.{end_of};
-ghost use Rattle.or_command.specs.Finishing.{WriteEnds, GoesOn, IfNoMemory};
+ghost use Rattle.or_command.specs.Finishing.{WriteEnds, EndsAfterLoad, IfNoMemory};
 ghost use Rattle.or_command.specs.Outcomes.{OutcomeBy};
 ghost use Rattle.or_command.specs.Loads.{bytes_of};
 ghost use Rattle.or_replay.specs.Board.{IsBoard};
@@ -161,7 +161,7 @@ fn finish<'a, C: RecordedCommand, H: Host>(
     requires names { AreNames (names_of names.now) }
     requires limit { length (files_in (names_of names.now) (bytes_of read.now)).image ≤ IMAGE_LIMIT }
     requires script { length (files_in (names_of names.now) (bytes_of read.now)).script ≤ SCRIPT_LIMIT }
-    ensures outcome { GoesOn (Verdict (C.fault command.now) (C.Makes command.now) (names_of names.now)) (Writes (C.fault command.now) (C.Makes command.now) (names_of names.now))
+    ensures outcome { EndsAfterLoad (Verdict (C.fault command.now) (C.Makes command.now) (names_of names.now)) (Writes (C.fault command.now) (C.Makes command.now) (names_of names.now))
         (bytes_of read.now) (end_of result) (H.state host.old) (H.state host.new) }
     ensures passed { IfNoMemory (end_of result) (FilesRunShort (names_of names.now) (bytes_of read.now)) }
     ensures silent { Silent (H.state host.old) (H.state host.new) }

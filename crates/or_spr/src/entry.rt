@@ -4,7 +4,7 @@ ghost use Rattle.std.specs.Prelude.{◌≡◌};
 ghost use Rattle.or_parts.specs.Bits.{with_bits};
 ghost use Rattle.or_parts.specs.Exceptions.{vector, fault_address, next_pc, restart_pc, saved_pc};
 
-use or_parts::{Cause, Place};
+use or_parts::{Cause, PcState};
 
 /// The word with the bits of a mask set, or cleared.
 #[inline]
@@ -56,7 +56,7 @@ pub(crate) fn fault_address(cause: &Cause, old: u32) -> u32
 
 /// The address of the instruction that is executed next, the jump's destination in a delay slot.
 #[inline]
-pub(crate) fn next_pc(at: &Place) -> u32
+pub(crate) fn next_pc(at: &PcState) -> u32
     ensures { result ≡ next_pc at.now.pc at.now.branch }
 {
     match at.branch {
@@ -66,7 +66,7 @@ pub(crate) fn next_pc(at: &Place) -> u32
 }
 
 // The instruction at pc, or the jump in whose delay slot it stands.
-fn restart_pc(at: &Place) -> u32
+fn restart_pc(at: &PcState) -> u32
     ensures { result ≡ restart_pc at.now.pc at.now.branch }
 {
     match at.branch {
@@ -76,7 +76,7 @@ fn restart_pc(at: &Place) -> u32
 }
 
 /// What EPCR0 holds after an entry.
-pub(crate) fn saved_pc(cause: &Cause, at: &Place) -> u32
+pub(crate) fn saved_pc(cause: &Cause, at: &PcState) -> u32
     ensures { result ≡ saved_pc cause.now at.now.pc at.now.branch }
 {
     match cause {

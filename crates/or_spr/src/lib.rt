@@ -6,6 +6,6 @@ mod entry;
 mod registers;
 mod routes;
 
-pub use or_parts::{Cause, Place, SprRoute};
+pub use or_parts::{Cause, PcState, SprRoute};
 pub use registers::Sprs;
 pub use routes::route;

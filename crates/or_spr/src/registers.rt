@@ -11,7 +11,7 @@ use or_parts::registers::{
     MACLO, NPC, NUMCORES, PPC, SR, UPR, VR,
 };
 use or_parts::status::{CLEARED_BY_ENTRY, CY, DSX, F, FO, OV, SM, WRITABLE};
-use or_parts::{Cause, Place, SprRoute};
+use or_parts::{Cause, PcState, SprRoute};
 use std::marker::Model;
 
 /// SR, what an exception entry saves, the accumulator, the shadow words, and the numbers that
@@ -92,7 +92,7 @@ impl Sprs {
     /// What register `n` reads at the place of an l.mfspr: NPC reads the address of the
     /// instruction that is executed next, PPC that of the l.mfspr.
     #[tactic(auto, unfolding(or_parts::specs::Special::own_read))]
-    pub fn read(&self, n: u32, at: &Place) -> u32
+    pub fn read(&self, n: u32, at: &PcState) -> u32
         requires { spr_route n ≡ SprRoute.Own }
         ensures { result ≡ own_read self.now at.now.pc at.now.branch n }
     {
@@ -140,7 +140,7 @@ impl Sprs {
     /// Enters an exception and answers the address of its handler (OpenRISC 1000 Architecture
     /// Manual, chapter 6). ESR0 becomes SR, EPCR0 where l.rfe leads back to, EEAR0 the cause's
     /// address where it has one, and SR that of a handler.
-    pub fn enter(&mut self, cause: &Cause, at: &Place) -> u32
+    pub fn enter(&mut self, cause: &Cause, at: &PcState) -> u32
         ensures value { result ≡ vector cause.now }
         ensures after { self.new ≡ record self.old {
           sr = entry_status self.old.sr at.now.branch;

@@ -9,8 +9,8 @@ are_digits base [] = false
 are_digits base (c ∷ cs) = list_all (λ b. is_digit b base) (c ∷ cs)
 
 -- what digits write; from 2 ^ 32 on all count as 2 ^ 32
-unfoldable pub size_of : ℕ → List ℕ → Option ℕ
-size_of base ds = if are_digits base ds then Some (min (digits_value base ds) (2 ^ 32)) else None
+unfoldable pub value_of : ℕ → List ℕ → Option ℕ
+value_of base ds = if are_digits base ds then Some (min (digits_value base ds) (2 ^ 32)) else None
 
 -- more than one digit, of which the first is 0
 abbrev pub has_leading_zero : List ℕ → Bool
@@ -24,4 +24,4 @@ within_word (Some n) = if nat_lt n (2 ^ 32) then Some n else None
 
 -- a decimal number of 32 bits without leading zeros
 unfoldable pub decimal_of : List ℕ → Option ℕ
-decimal_of text = if has_leading_zero text then None else within_word (size_of 10 text)
+decimal_of text = if has_leading_zero text then None else within_word (value_of 10 text)

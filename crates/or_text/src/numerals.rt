@@ -1,7 +1,7 @@
 //! Numbers read from text.
 ghost use Rattle.std.specs.Prelude.{◌≡◌, ◌+◌, ◌*◌, ◌≤◌, ◌<◌, ◌^◌, min, IfSome, nat_lt, if◌then◌else◌};
 ghost use Rattle.std.specs.Char.{digit_value};
-ghost use Rattle.or_text.specs.Numerals.{size_of, decimal_of, has_leading_zero};
+ghost use Rattle.or_text.specs.Numerals.{value_of, decimal_of, has_leading_zero};
 
 const TOO_LARGE: u64 = 1 << 32;
 
@@ -26,11 +26,11 @@ fn append(value: u64, base: u8, digit: u8) -> u64
 
 /// The number that digits of a base from 1 to 36 write, in either case; from 2^32 on all count as 2^32.
 /// `None` where the text is empty or has another byte.
-#[tactic(auto, using(crate::proofs::Sizes::sizes), unfolding(crate::specs::Numerals::size_of))]
+#[tactic(auto, using(crate::proofs::Sizes::sizes), unfolding(crate::specs::Numerals::value_of))]
 pub fn size(base: u8, text: &[u8]) -> Option<u64>
     requires low { 1 ≤ base }
     requires high { base ≤ 36 }
-    ensures is { result ≡ size_of base text.now }
+    ensures is { result ≡ value_of base text.now }
     ensures within { IfSome result (λ n. n ≤ 2 ^ 32) }
 {
     if text.is_empty() {

@@ -18,7 +18,7 @@ use Rattle.or_turn.specs.declared.view.Stage.TheVariants.{Idle}
 use Rattle.or_turn.specs.declared.view.View.{View}
 use Rattle.or_turn.specs.Schedules.{first_board, board_of, IsDefined, count, core_at}
 use Rattle.or_turn.specs.Told.{SeatState, TakesBus, holding_view, done_view}
-use Rattle.or_turn.specs.Shown.{core_of, only_of, begun_core, HasBegun, Turned}
+use Rattle.or_turn.specs.SeatViews.{core_of, only_of, begun_core, HasBegun, Turned}
 use Rattle.or_turn.specs.Stays.{turn_from, HasBus, HasBusBegun, MadeTurns}
 use Rattle.or_turn.proofs.Replays.{MayTurn, turned_board, turned_here, snoc, count_append}
 use Rattle.or_turn.proofs.Steps.{Sound, sound}

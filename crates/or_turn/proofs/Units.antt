@@ -20,7 +20,7 @@ use Rattle.or_turn.specs.declared.view.JoinedHalves.{JoinedHalves}
 use Rattle.or_turn.specs.declared.view.View.{View}
 use Rattle.or_turn.specs.Rule.{longer}
 use Rattle.or_turn.specs.Told.{JoinConfirmed, halves, both_view, LastKnows}
-use Rattle.or_turn.specs.Shown.{core_of}
+use Rattle.or_turn.specs.SeatViews.{core_of}
 use Rattle.or_turn.specs.Ordered.{Numbered, Among}
 use Rattle.or_turn.proofs.Steps.{sound}
 use Rattle.or_turn.proofs.Removals.{map_row, same_row}

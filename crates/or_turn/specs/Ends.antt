@@ -7,7 +7,7 @@ use Rattle.or_turn.specs.declared.view.View.{View}
 use Rattle.or_turn.specs.declared.shared.Closed.{Closed}
 use Rattle.or_turn.specs.Schedules.{first_board, board_of, core_at, IsDefined, count}
 use Rattle.or_turn.specs.Rule.{Begins}
-use Rattle.or_turn.specs.Shown.{core_of}
+use Rattle.or_turn.specs.SeatViews.{core_of}
 
 -- there is one schedule, which begins with what the last view has seen, and the cores, in order of number, the bus and the marks are those of its replay
 pub record IsClosedBy (v : View) (end : Closed) : Type 0 where

@@ -2,7 +2,7 @@ pub mod Schedules
 pub mod Laws
 pub mod Rule
 pub mod Told
-pub mod Shown
+pub mod SeatViews
 pub mod Stays
 pub mod Units
 pub mod Ordered

@@ -24,7 +24,7 @@ HasTicket serving t _ = ⊥
 pub record Parts (st : Settings) (s : State (Option Transfer) View) : Type 0 where
   pub schedule : List ℕ
   pub stays : List (ℕ × ℕ)
-  -- one view has the opening mark, the enrolled cores are in one view each, and no other core has made a turn
+  -- one view has the opener token, the enrolled cores are in one view each, and no other core has made a turn
   pub one_mark : (i j a b : ℕ) (v w : View) → At s i v → At s j w → v.opening ≡ Some a → w.opening ≡ Some b → i ≡ j
   pub mark_counts : (j a : ℕ) (v : View) → At s j v → v.opening ≡ Some a → a ≡ slice_index s.words 2
   pub enrolled_most : slice_index s.words 2 ≤ st.config.cores

@@ -62,7 +62,7 @@ pub record Witness : Type 0 where
   -- the cores whose tickets wait, in the order of these
   pub queue : List ℕ
   pub enrolled : ℕ
-  -- which seat has a core, and which has the opening mark
+  -- which seat has a core, and which has the opener token
   pub owner : ℕ → ℕ
   pub opener : ℕ
   -- whether a seat holds the slot

@@ -15,5 +15,5 @@ pub use laws::{equal_entries_leave_the_core, turns_leave_other_cores};
 pub use plays::TurnRule;
 pub use rule::each_part_holds;
 pub use shared::{Closed, Shared};
-pub use unit::Unit;
+pub use unit::TurnUnit;
 pub use view::{JoinedHalves, OpenedWith, Settings, Stage, Transfer, View};

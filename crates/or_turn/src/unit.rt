@@ -1,7 +1,7 @@
 //! A unit: a seat at the table, with the cores that it works.
 ghost use Rattle.std.specs.Prelude.{◌≡◌, [], Bool, None, Some};
 ghost use Rattle.or_turn.specs.declared.view.Stage.TheVariants.{Idle};
-ghost use Rattle.or_turn.specs.Shown.{cores_shown, HasBegun};
+ghost use Rattle.or_turn.specs.SeatViews.{cores_shown, HasBegun};
 
 use crate::pace::Pace;
 use crate::view::{Transfer, View};
@@ -9,13 +9,13 @@ use arrayvec::ArrayVec;
 use atomic_table::Seat;
 use or_core::Core;
 
-pub(crate) type Place = Seat<Option<Transfer>, View>;
+pub(crate) type TurnSeat = Seat<Option<Transfer>, View>;
 
 /// A unit holds some of a board's cores, at first one. Its cores are those of its view; where it has begun, its one core
 /// is in the middle of a turn. It may move between threads.
 #[derive(Drop)]
-pub struct Unit {
-    pub(crate) seat: Place,
+pub struct TurnUnit {
+    pub(crate) seat: TurnSeat,
     pub(crate) cores: ArrayVec<Core, 8>,
     pub(crate) begun: Option<bool>,
     pub(crate) pace: Pace,
@@ -25,21 +25,21 @@ pub struct Unit {
     ghost ready: { (follows : Bool) → begun ≡ Some follows → HasBegun seat.me.0 follows },
 }
 
-impl Unit {
+impl TurnUnit {
     ghost use Rattle.std.specs.Prelude.{ℕ, ◌∷◌};
     ghost use Rattle.or_model.specs.Turn.{turn_begun};
     ghost use Rattle.or_turn.specs.Schedules.{core_at, first_board};
-    ghost use Rattle.or_turn.specs.Shown.{core_of, begun_core, opened_view};
+    ghost use Rattle.or_turn.specs.SeatViews.{core_of, begun_core, opened_view};
     ghost use Rattle.or_turn.specs.Units.{view, begun, cores, IsReady};
 
     // The unit of one core, as the board has it at first.
-    pub(crate) fn fresh(seat: Place, core: Core) -> Unit
+    pub(crate) fn fresh(seat: TurnSeat, core: Core) -> TurnUnit
         requires { (n : ℕ) × (seat.me ≡ (opened_view seat.me.0.settings n, [])) × (core ≡ core_at (first_board seat.me.0.settings).cores n) }
         ensures { (result.seat ≡ seat) × (begun result ≡ None) }
     {
         let mut cores = ArrayVec::new();
         cores.push(core);
-        Unit {
+        TurnUnit {
             seat,
             cores,
             begun: None,

@@ -1,7 +1,7 @@
 //! What lies in the table's slot, what the table is told when it is made, and what a seat at it knows.
 use or_bus::Bus;
+use or_ghost_bytes::GhostBytes;
 use or_sched::Mark;
-use or_shown::Shown;
 use or_words::Config;
 
 /// The bus with the schedule so far and its marks. It is out between a holder's take and put. It goes in and out with each
@@ -17,8 +17,8 @@ pub struct Transfer {
 #[derive(Drop)]
 pub struct OpenedWith {
     pub config: Config,
-    pub image: Shown,
-    pub input: Shown,
+    pub image: GhostBytes,
+    pub input: GhostBytes,
 }
 
 /// What a board was opened with. No value of it is made; a clause reads an array as a list, of any length.
@@ -58,7 +58,7 @@ pub struct View {
     pub cores: [u32; 0],
     /// A beginning of the schedule.
     pub seen: [u8; 0],
-    /// The opening mark, with its count of enrolled cores.
+    /// The opener token, with its count of enrolled cores.
     pub opening: Option<u32>,
     pub stage: Stage,
 }

@@ -7,7 +7,7 @@ ghost use Rattle.or_turn.specs.Units.{view, begun, IsOf};
 ghost use Rattle.or_turn.specs.Ends.{IsClosedBy};
 
 use super::{Closed, Shared};
-use crate::unit::Unit;
+use crate::unit::TurnUnit;
 use crate::view::Transfer;
 use arrayvec::ArrayVec;
 use or_core::Core;
@@ -43,13 +43,13 @@ fn in_order(mut cores: ArrayVec<Core, 8>) -> ArrayVec<Core, 8>
 impl Shared {
     /// Ends it, and waits for nobody: who has every core knows that no one waits. The unit is of this Shared, holds every
     /// core and has not begun. It takes no memory.
-    pub fn close(self, last: Unit) -> Closed
+    pub fn close(self, last: TurnUnit) -> Closed
         requires of { IsOf self last }
         requires rests { begun last ≡ None }
         requires whole { (c : ℕ) → c < (view last).settings.config.cores → 0 < count c (view last).cores }
         ensures { IsClosedBy (view last) result }
     {
-        let Unit {
+        let TurnUnit {
             seat,
             cores,
             begun: _,

@@ -8,7 +8,7 @@ ghost use Rattle.or_turn.specs.Units.{view, begun, cores, IsOf};
 
 use super::Shared;
 use super::steps::join;
-use crate::unit::Unit;
+use crate::unit::TurnUnit;
 use arrayvec::ArrayVec;
 use or_core::Core;
 
@@ -25,7 +25,7 @@ fn append(into: &mut ArrayVec<Core, 8>, mut from: ArrayVec<Core, 8>)
 impl Shared {
     /// Puts two units together, and waits for nobody. Both are of this Shared, and neither has begun; `into` then has the
     /// cores of both, unchanged, and the longer of the two beginnings of the schedule that they have seen. It takes no memory.
-    pub fn join(&self, into: &mut Unit, from: Unit)
+    pub fn join(&self, into: &mut TurnUnit, from: TurnUnit)
         requires of { IsOf self.now into.old × IsOf self.now from }
         requires rest { (begun into.old ≡ None) × (begun from ≡ None) }
         ensures of { IsOf self.now into.new }
@@ -38,7 +38,7 @@ impl Shared {
         ensures told { (c : ℕ) → 0 < count c (view into.old).cores → count c (view into.old).seen ≡ count c (view into.new).seen }
         ensures other_told { (c : ℕ) → 0 < count c (view from).cores → count c (view from).seen ≡ count c (view into.new).seen }
     {
-        let Unit {
+        let TurnUnit {
             seat,
             cores,
             begun: _,

@@ -7,19 +7,19 @@ ghost use Rattle.or_replay.specs.Board.{IsBoard};
 ghost use Rattle.or_replay.specs.Opening.{FailsToOpen};
 ghost use Rattle.or_turn.specs.Schedules.{first_board};
 ghost use Rattle.or_turn.specs.Rule.{settings_of};
-ghost use Rattle.or_turn.specs.Shown.{seat_view};
+ghost use Rattle.or_turn.specs.SeatViews.{seat_view};
 ghost use Rattle.or_turn.specs.Units.{Fresh, AreOpened};
 
 use super::Shared;
 use super::steps::{Top, enrol, split};
-use crate::unit::{Place, Unit};
+use crate::unit::{TurnSeat, TurnUnit};
 use crate::view::{OpenedWith, Transfer};
 use arrayvec::ArrayVec;
 use atomic_table::Table;
 use or_bus::Bus;
 use or_core::Core;
+use or_ghost_bytes::GhostBytes;
 use or_replay::{Board, OpenFault};
-use or_shown::Shown;
 use or_waiters::Waiters;
 use or_words::limits::BLOCK;
 use or_words::{Config, NoMemory};
@@ -29,10 +29,10 @@ use std::alloc::Global;
 fn seat_all(
     alloc: Global,
     top: &Top,
-    first: Place,
+    first: TurnSeat,
     mut row: ArrayVec<Core, 8>,
     cores: u32,
-) -> Result<Vec<Unit>, NoMemory>
+) -> Result<Vec<TurnUnit>, NoMemory>
     requires table { (first.table_id ≡ top.now.table_id) × (top.now.table_id.words ≡ 3) × (top.now.table_id.slots ≡ 1) }
     requires fits { Fits first.me.0.settings.config × (cores ≡ first.me.0.settings.config.cores) × (row.items ≡ (first_board first.me.0.settings).cores) }
     requires first { first.me ≡ (seat_view first.me.0.settings 0, []) }
@@ -46,7 +46,7 @@ fn seat_all(
     for number in 0..cores {
         enrol(top, &mut seat);
         let next = split(top, &mut seat);
-        units.push_reserved(Unit::fresh(seat, row.remove(0)));
+        units.push_reserved(TurnUnit::fresh(seat, row.remove(0)));
         seat = next;
     }
     Ok(units)
@@ -77,7 +77,11 @@ fn first_transfer(alloc: Global, config: &Config, bus: Bus) -> Result<Transfer, 
 }
 
 // What units share of a board before its first turn, and the units.
-fn share(alloc: Global, opened: &OpenedWith, board: Board) -> Result<(Shared, Vec<Unit>), NoMemory>
+fn share(
+    alloc: Global,
+    opened: &OpenedWith,
+    board: Board,
+) -> Result<(Shared, Vec<TurnUnit>), NoMemory>
     requires fits { Fits opened.now.config }
     requires board { IsBoard board.cores board.bus (first_board (settings_of opened.now)) }
     ensures { IfOk result (λ r. AreOpened (settings_of opened.now) r.0 r.1) }
@@ -110,7 +114,7 @@ impl Shared {
         config: &Config,
         image: &[u8],
         input: Vec<u8>,
-    ) -> Result<(Shared, Vec<Unit>), OpenFault>
+    ) -> Result<(Shared, Vec<TurnUnit>), OpenFault>
         requires fits { Fits config.now }
         requires limit { length image.now ≤ IMAGE_LIMIT }
         ensures opened { MatchResult result
@@ -119,8 +123,8 @@ impl Shared {
     {
         let opened = OpenedWith {
             config: *config,
-            image: Shown::of(image),
-            input: Shown::of(input.as_slice()),
+            image: GhostBytes::of(image),
+            input: GhostBytes::of(input.as_slice()),
         };
         match Board::open(alloc, config, image, input) {
             Ok(board) => match share(alloc, &opened, board) {

@@ -6,7 +6,7 @@ ghost use Rattle.or_turn.specs.Rule.{longer};
 ghost use Rattle.or_turn.specs.Told.{TakesBus, waiting_view, enrolled_view, closed_view, next_view, both_view, halves, JoinConfirmed};
 
 use crate::plays::{Confirm, Divide, Draw, Enrol, Look, TurnRule, Unite};
-use crate::unit::Place;
+use crate::unit::TurnSeat;
 use crate::view::{OpenedWith, Transfer, View};
 use atomic_table::Shared as Steps;
 use or_waiters::Waiters;
@@ -23,7 +23,7 @@ const ENROLLED: usize = 2;
 pub(crate) type Top = Steps<Option<Transfer>, View, OpenedWith, TurnRule>;
 
 // Draws this ticket, where it is the next one.
-fn draw(top: &Top, seat: &mut Place, ticket: u64) -> bool
+fn draw(top: &Top, seat: &mut TurnSeat, ticket: u64) -> bool
     requires table { (seat.old.table_id ≡ top.now.table_id) × (top.now.table_id.words ≡ 3) × (top.now.table_id.slots ≡ 1) }
     requires ready { (c : ℕ) × (seat.old.me.0.stage ≡ Idle) × (seat.old.me.0.cores ≡ c ∷ []) × ((core_at (board_of seat.old.me.0.settings seat.old.me.0.seen).cores c).stop ≡ None) }
     ensures same { (seat.new.table_id ≡ seat.old.table_id) × (seat.new.id ≡ seat.old.id) }
@@ -33,7 +33,7 @@ fn draw(top: &Top, seat: &mut Place, ticket: u64) -> bool
 }
 
 // Looks whether the ticket is served, and takes the slot where it is.
-fn look(top: &Top, seat: &mut Place, ticket: u64) -> bool
+fn look(top: &Top, seat: &mut TurnSeat, ticket: u64) -> bool
     requires table { (seat.old.table_id ≡ top.now.table_id) × (top.now.table_id.words ≡ 3) × (top.now.table_id.slots ≡ 1) }
     requires waits { (seat.old.me.0.stage ≡ Waits ticket) × (seat.old.me.1 ≡ []) }
     ensures same { (seat.new.table_id ≡ seat.old.table_id) × (seat.new.id ≡ seat.old.id) }
@@ -43,7 +43,7 @@ fn look(top: &Top, seat: &mut Place, ticket: u64) -> bool
 }
 
 // Takes the slot once the ticket is served. Who draws the ticket that is served finds it so at the first look.
-fn take<R: Wait>(rt: &R, top: &Top, seat: &mut Place, ticket: u64)
+fn take<R: Wait>(rt: &R, top: &Top, seat: &mut TurnSeat, ticket: u64)
     requires table { (seat.old.table_id ≡ top.now.table_id) × (top.now.table_id.words ≡ 3) × (top.now.table_id.slots ≡ 1) }
     requires waits { (seat.old.me.0.stage ≡ Waits ticket) × (seat.old.me.1 ≡ []) }
     ensures same { (seat.new.table_id ≡ seat.old.table_id) × (seat.new.id ≡ seat.old.id) }
@@ -58,7 +58,7 @@ fn take<R: Wait>(rt: &R, top: &Top, seat: &mut Place, ticket: u64)
 }
 
 // Takes the bus, where it is free and not kept for another core.
-fn try_bus<R: Wait>(rt: &R, top: &Top, waiters: &Waiters, seat: &mut Place, core: u32) -> bool
+fn try_bus<R: Wait>(rt: &R, top: &Top, waiters: &Waiters, seat: &mut TurnSeat, core: u32) -> bool
     requires table { (seat.old.table_id ≡ top.now.table_id) × (top.now.table_id.words ≡ 3) × (top.now.table_id.slots ≡ 1) }
     requires ready { (c : ℕ) × (seat.old.me.0.stage ≡ Idle) × (seat.old.me.0.cores ≡ c ∷ []) × ((core_at (board_of seat.old.me.0.settings seat.old.me.0.seen).cores c).stop ≡ None) × (seat.old.me.1 ≡ []) }
     ensures same { (seat.new.table_id ≡ seat.old.table_id) × (seat.new.id ≡ seat.old.id) }
@@ -73,7 +73,7 @@ fn try_bus<R: Wait>(rt: &R, top: &Top, waiters: &Waiters, seat: &mut Place, core
 }
 
 // Tries up to so many times.
-fn try_often<R: Wait>(rt: &R, top: &Top, waiters: &Waiters, seat: &mut Place, core: u32) -> bool
+fn try_often<R: Wait>(rt: &R, top: &Top, waiters: &Waiters, seat: &mut TurnSeat, core: u32) -> bool
     requires table { (seat.old.table_id ≡ top.now.table_id) × (top.now.table_id.words ≡ 3) × (top.now.table_id.slots ≡ 1) }
     requires ready { (c : ℕ) × (seat.old.me.0.stage ≡ Idle) × (seat.old.me.0.cores ≡ c ∷ []) × ((core_at (board_of seat.old.me.0.settings seat.old.me.0.seen).cores c).stop ≡ None) × (seat.old.me.1 ≡ []) }
     ensures same { (seat.new.table_id ≡ seat.old.table_id) × (seat.new.id ≡ seat.old.id) }
@@ -93,7 +93,7 @@ pub(crate) fn wait_for_bus<R: Wait>(
     rt: &R,
     top: &Top,
     waiters: &Waiters,
-    seat: &mut Place,
+    seat: &mut TurnSeat,
     core: u32,
 )
     requires table { (seat.old.table_id ≡ top.now.table_id) × (top.now.table_id.words ≡ 3) × (top.now.table_id.slots ≡ 1) }
@@ -120,8 +120,8 @@ pub(crate) fn wait_for_bus<R: Wait>(
     unreachable!()
 }
 
-// Gives the next core to the seat with the opening mark.
-pub(crate) fn enrol(top: &Top, seat: &mut Place)
+// Gives the next core to the seat with the opener token.
+pub(crate) fn enrol(top: &Top, seat: &mut TurnSeat)
     requires table { (seat.old.table_id ≡ top.now.table_id) × (top.now.table_id.words ≡ 3) × (top.now.table_id.slots ≡ 1) }
     requires ready { (k : ℕ) × (seat.old.me.0.stage ≡ Idle) × (seat.old.me.0.cores ≡ []) × (seat.old.me.0.opening ≡ Some k) × (k < seat.old.me.0.settings.config.cores) }
     ensures same { (seat.new.table_id ≡ seat.old.table_id) × (seat.new.id ≡ seat.old.id) × (seat.new.me.1 ≡ seat.old.me.1) }
@@ -130,8 +130,8 @@ pub(crate) fn enrol(top: &Top, seat: &mut Place)
     top.fetch_add::<Enrol>(seat, ENROLLED, 1);
 }
 
-// Makes the next seat, which has the opening mark from now on.
-pub(crate) fn split(top: &Top, seat: &mut Place) -> Place
+// Makes the next seat, which has the opener token from now on.
+pub(crate) fn split(top: &Top, seat: &mut TurnSeat) -> TurnSeat
     requires table { (seat.old.table_id ≡ top.now.table_id) × (top.now.table_id.words ≡ 3) × (top.now.table_id.slots ≡ 1) }
     requires ready { (k : ℕ) × (seat.old.me.0.stage ≡ Idle) × (seat.old.me.0.opening ≡ Some k) }
     ensures same { (seat.new.table_id ≡ seat.old.table_id) × (seat.new.id ≡ seat.old.id) × (seat.new.me ≡ (closed_view seat.old.me.0, seat.old.me.1)) }
@@ -141,7 +141,7 @@ pub(crate) fn split(top: &Top, seat: &mut Place) -> Place
 }
 
 // Takes in the other seat's view, and looks what became of the two.
-pub(crate) fn join(top: &Top, seat: &mut Place, other: Place)
+pub(crate) fn join(top: &Top, seat: &mut TurnSeat, other: TurnSeat)
     requires table { (seat.old.table_id ≡ top.now.table_id) × (top.now.table_id.words ≡ 3) × (top.now.table_id.slots ≡ 1) × (other.table_id ≡ top.now.table_id) }
     requires idle { (seat.old.me.0.stage ≡ Idle) × (other.me.0.stage ≡ Idle) × (other.me.1 ≡ []) }
     ensures same { (seat.new.table_id ≡ seat.old.table_id) × (seat.new.id ≡ seat.old.id) × (seat.new.me ≡ (both_view seat.old.me.0 other.me.0, seat.old.me.1)) }

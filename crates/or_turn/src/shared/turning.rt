@@ -5,7 +5,7 @@ ghost use Rattle.or_bus.specs.Represents.{Represents};
 ghost use Rattle.or_core.specs.Follows.{IsState, KeepsBus};
 ghost use Rattle.or_replay.specs.Marks.{with_mark};
 ghost use Rattle.or_turn.specs.declared.view.Settings.{Settings};
-ghost use Rattle.or_turn.specs.Shown.{core_of, Turned};
+ghost use Rattle.or_turn.specs.SeatViews.{core_of, Turned};
 ghost use Rattle.or_turn.specs.Stays.{turn_from, HasBusBegun, MadeTurns};
 ghost use Rattle.or_turn.specs.Units.{view, begun, cores, IsOf};
 
@@ -13,7 +13,7 @@ use super::Shared;
 use super::steps::{SERVING, wait_for_bus};
 use crate::pace::Pace;
 use crate::plays::Finish;
-use crate::unit::Unit;
+use crate::unit::TurnUnit;
 use crate::view::Transfer;
 use or_core::Core;
 use or_sched::Mark;
@@ -75,7 +75,7 @@ impl Shared {
     /// Waits for the bus, makes the rest of the turn that the unit has begun, and then at most `most` - 1 further whole
     /// turns of the unit's core while it has not stopped. The unit is of this Shared; it then has not begun. It takes no
     /// memory.
-    pub fn turn<R: Wait>(&self, rt: &R, unit: &mut Unit, most: u32)
+    pub fn turn<R: Wait>(&self, rt: &R, unit: &mut TurnUnit, most: u32)
         requires most { 1 ≤ most }
         requires of { IsOf self.now unit.old }
         requires begun { (follows : Bool) × (begun unit.old ≡ Some follows) }

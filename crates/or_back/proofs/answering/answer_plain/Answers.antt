@@ -1,7 +1,7 @@
 use Rattle.std.proofs.Common.{◌∙◌, ◌++◌, refl, sym, ap, subst}
 use Rattle.or_script.specs.declared.command.Command.{Command}
 use Rattle.or_debug.specs.Turns.{turns_made, last_of}
-use Rattle.or_debug.specs.Shown.{made_text}
+use Rattle.or_debug.specs.BoardText.{made_text}
 use Rattle.or_debug.proofs.Results.{on_ok_both}
 use Rattle.or_debug.proofs.Seen.{still_after}
 use Rattle.or_back.specs.declared.lines.BackCommand.TheVariants.{Plain}

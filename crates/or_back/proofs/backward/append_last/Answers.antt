@@ -1,6 +1,6 @@
 use Rattle.std.proofs.Common.{◌∙◌, ◌≡◌, ◌++◌, ap, sym, arith, ℕ, drop}
 use Rattle.or_debug.specs.Turns.{turns_made}
-use Rattle.or_debug.specs.Shown.{made_text}
+use Rattle.or_debug.specs.BoardText.{made_text}
 use Rattle.or_back.proofs.LastTurns.{last_none, last_more, last_all}
 use Rattle.or_back.proofs.backward.append_last.Goals as goal
 

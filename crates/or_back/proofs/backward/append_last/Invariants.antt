@@ -1,7 +1,7 @@
 use Rattle.std.proofs.Common.{◌≡◌, ◌≤◌, ◌-◌, ◌++◌, ℕ, List, drop}
 use Rattle.or_model.specs.Turn.{Board}
 use Rattle.or_debug.specs.Turns.{turns_made}
-use Rattle.or_debug.specs.Shown.{made_text}
+use Rattle.or_debug.specs.BoardText.{made_text}
 use Rattle.or_back.specs.Tells.{Tells}
 use Rattle.or_back.proofs.backward.append_last.Given as goal
 

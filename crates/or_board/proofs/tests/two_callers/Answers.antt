@@ -1,7 +1,7 @@
 use Rattle.std.proofs.Common.{◌≡◌, ℕ, ◌+◌, ◌<◌, List, [], ◌∷◌, ◌++◌, length, get_or, Option, sym, ap, ◌∙◌, subst, arith, length-append}
 use Rattle.std.specs.Option.{option_to_list}
 use Rattle.or_turn.specs.declared.view.Settings.{Settings}
-use Rattle.or_turn.specs.declared.unit.Unit.{Unit as Piece}
+use Rattle.or_turn.specs.declared.unit.TurnUnit.{TurnUnit}
 use Rattle.or_turn.specs.Units.{settings_in, id_of}
 use Rattle.or_sched.specs.declared.recording.Mark.{Mark}
 use Rattle.or_replay.proofs.Replaying.{length_marks}
@@ -12,15 +12,15 @@ use Rattle.or_board.proofs.tests.two_callers.Goals as goal
 pub join-first-requires-after_bounds : goal.join-first-requires-after_bounds
 join-first-requires-after_bounds g c κs within =
     let opened = c.in-Ok.ensures.opened.1 in let z = id_of c.in-Ok.shared in let st = settings_in c.in-Ok.shared in
-    let us : List Piece = c.in-Ok.units.items in let vs : List Piece = c.pop.new.self.items in let ws : List Piece = c.pop-2.new.self.items in
-    let u : Piece = c.unwrap-second.result in let w : Piece = c.unwrap-first.result in
-    let cut : us ≡ vs ++ u ∷ [] = c.pop.ensures.items ∙ ap (λ (o : Option Piece). vs ++ option_to_list o) c.unwrap-second.ensures in
-    let cut2 : vs ≡ ws ++ w ∷ [] = c.pop-2.ensures.items ∙ ap (λ (o : Option Piece). ws ++ option_to_list o) c.unwrap-first.ensures in
+    let us : List TurnUnit = c.in-Ok.units.items in let vs : List TurnUnit = c.pop.new.self.items in let ws : List TurnUnit = c.pop-2.new.self.items in
+    let u : TurnUnit = c.unwrap-second.result in let w : TurnUnit = c.unwrap-first.result in
+    let cut : us ≡ vs ++ u ∷ [] = c.pop.ensures.items ∙ ap (λ (o : Option TurnUnit). vs ++ option_to_list o) c.unwrap-second.ensures in
+    let cut2 : vs ≡ ws ++ w ∷ [] = c.pop-2.ensures.items ∙ ap (λ (o : Option TurnUnit). ws ++ option_to_list o) c.unwrap-first.ensures in
     let two = c.requires.two in let many = opened.many in let ok = c.in-Ok.units.ok.0 in
-    let a : length us ≡ length vs + 1 = ap (λ (xs : List Piece). length xs) cut ∙ length-append vs (u ∷ []) in
-    let b : length vs ≡ length ws + 1 = ap (λ (xs : List Piece). length xs) cut2 ∙ length-append ws (w ∷ []) in
+    let a : length us ≡ length vs + 1 = ap (λ (xs : List TurnUnit). length xs) cut ∙ length-append vs (u ∷ []) in
+    let b : length vs ≡ length ws + 1 = ap (λ (xs : List TurnUnit). length xs) cut2 ∙ length-append ws (w ∷ []) in
     let same = opened.settings in
-    let given : (n : ℕ) (d : Piece) → n < length vs + 1 → Starts z st n (get_or us n d) = λ n d h.
+    let given : (n : ℕ) (d : TurnUnit) → n < length vs + 1 → Starts z st n (get_or us n d) = λ n d h.
     subst (λ (x : Settings). Starts z x n (get_or us n d)) (sym same) (fresh_starts z _ n _ (opened.each n d (omega arith)) (omega arith)) in
     let last = popped (Starts z st) us vs u cut given in let first = popped (Starts z st) vs ws w cut2 (λ n d h. last.0 n d (omega arith)) in
     let fits = subst (λ (x : Settings). Rattle.or_words.specs.Settings.Fits x.config) (sym same) c.requires.fits in

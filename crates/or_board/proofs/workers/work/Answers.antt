@@ -3,7 +3,7 @@ use Rattle.atomic_table.specs.Seated.{TableId}
 use Rattle.or_words.specs.Settings.{Fits}
 use Rattle.or_sched.specs.Schedule.{IsSchedule}
 use Rattle.or_turn.specs.declared.view.Settings.{Settings}
-use Rattle.or_turn.specs.declared.unit.Unit.{Unit as Piece}
+use Rattle.or_turn.specs.declared.unit.TurnUnit.{TurnUnit}
 use Rattle.or_turn.specs.Schedules.{first_board}
 use Rattle.or_turn.specs.Units.{settings_in, id_of}
 use Rattle.or_board.specs.Works.{Starts, IsThreadedRun}
@@ -12,10 +12,10 @@ use Rattle.or_board.proofs.workers.work.Goals as goal
 
 pub work_all-requires-clause-starts : goal.work_all-requires-clause-starts
 work_all-requires-clause-starts g c κs within = λ n d h. let s = c.set_looks.ensures in let e = c.as_mut_slice.ensures.value in let o = c.args.units.ok.0 in
-    let l : length c.as_mut_slice.result.now ≡ length c.args.units.items = ap (λ (xs : List Piece). length xs) e in let many = c.requires.opened.many in
+    let l : length c.as_mut_slice.result.now ≡ length c.args.units.items = ap (λ (xs : List TurnUnit). length xs) e in let many = c.requires.opened.many in
     let fresh : Starts (id_of c.args.shared) (settings_in c.args.shared) n (get_or c.args.units.items n d) = fresh_starts _ _ n _ (c.requires.opened.each n d (omega arith)) (omega arith) in
     let there = subst (λ (p : TableId × Settings). Starts p.0 p.1 n (get_or c.args.units.items n d)) (λ i. (sym s.0 i, sym s.1 i)) fresh in
-    subst (λ (xs : List Piece). Starts (id_of c.set_looks.new.self) (settings_in c.set_looks.new.self) n (get_or xs n d)) (sym e) there
+    subst (λ (xs : List TurnUnit). Starts (id_of c.set_looks.new.self) (settings_in c.set_looks.new.self) n (get_or xs n d)) (sym e) there
 
 pub returns-clause-run : goal.returns-clause-run
 returns-clause-run g c = let s = c.set_looks.ensures.1 in let fits = subst (λ (st : Settings). Fits st.config) (sym s) c.requires.fits in

@@ -2,7 +2,7 @@ use Rattle.std.proofs.Common.{ℕ, ap, ◌∙◌, subst, arith}
 use Rattle.or_turn.specs.declared.view.Settings.{Settings}
 use Rattle.or_turn.specs.Schedules.{IsDefined}
 use Rattle.or_turn.specs.declared.view.View.{View}
-use Rattle.or_turn.specs.Shown.{only_of, Turned}
+use Rattle.or_turn.specs.SeatViews.{only_of, Turned}
 use Rattle.or_turn.specs.Units.{view, settings_in, id_of}
 use Rattle.or_turn.proofs.Steps.{count_budget}
 use Rattle.or_board.specs.Works.{Works}

@@ -1,6 +1,6 @@
 use Rattle.std.proofs.Common.{◌-◌, ◌≤◌}
 use Rattle.or_turn.specs.Schedules.{count}
-use Rattle.or_turn.specs.Shown.{only_of}
+use Rattle.or_turn.specs.SeatViews.{only_of}
 use Rattle.or_turn.specs.Units.{view, settings_in, id_of}
 use Rattle.or_board.specs.Works.{Works}
 use Rattle.or_board.proofs.workers.work_unit.Given as goal

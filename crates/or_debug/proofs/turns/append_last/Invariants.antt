@@ -1,5 +1,5 @@
 use Rattle.std.proofs.Common.{◌≡◌, ◌++◌, drop}
-use Rattle.or_debug.specs.Shown.{made_text}
+use Rattle.or_debug.specs.BoardText.{made_text}
 use Rattle.or_debug.proofs.turns.append_last.Given as goal
 
 -- the turns so far stand before those that are left

@@ -3,7 +3,7 @@ use lib.ListN.{length-map}
 use Rattle.or_model.specs.Core.{Core}
 use Rattle.or_turn.specs.declared.view.View.{View}
 use Rattle.or_turn.specs.Told.{SeatState}
-use Rattle.or_turn.specs.Shown.{core_of, cores_shown}
+use Rattle.or_turn.specs.SeatViews.{core_of, cores_shown}
 use Rattle.or_turn.proofs.Units.{joint_short, joint_cores}
 use Rattle.or_turn.proofs.shared.Shared.join.Goals.{After-join}
 use Rattle.or_turn.proofs.shared.Shared.join.Goals as goal

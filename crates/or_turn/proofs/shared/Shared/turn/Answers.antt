@@ -7,7 +7,7 @@ use Rattle.or_turn.specs.declared.view.View.{View}
 use Rattle.or_turn.specs.Schedules.{IsDefined}
 use Rattle.or_turn.specs.Rule.{SlotHolds, settings_of}
 use Rattle.or_turn.specs.Told.{TakesBus, SeatState, holding_view, done_view}
-use Rattle.or_turn.specs.Shown.{core_of, only_of, begun_core, cores_shown, HasBegun, Turned}
+use Rattle.or_turn.specs.SeatViews.{core_of, only_of, begun_core, cores_shown, HasBegun, Turned}
 use Rattle.or_turn.specs.Stays.{HasBusBegun, MadeTurns}
 use Rattle.or_turn.proofs.shared.Shared.turn.Goals.{In-Some, After-wait_for_bus, After-index-as_mut_slice-0, After-stay, After-fetch_add}
 use Rattle.or_turn.proofs.Turning.{finishes}

@@ -1,6 +1,6 @@
 use Rattle.std.proofs.Common.{◌≡◌, ℕ, ◌<◌, ◌≤◌, [], vec_len, vec_capacity, slice_index_or, drop}
 use Rattle.or_turn.specs.Schedules.{first_board}
-use Rattle.or_turn.specs.Shown.{seat_view}
+use Rattle.or_turn.specs.SeatViews.{seat_view}
 use Rattle.or_turn.specs.Units.{Fresh}
 use Rattle.or_turn.proofs.shared.opening.seat_all.Given as goal
 

@@ -1,8 +1,0 @@
-use Rattle.std.proofs.Common.{◌≡◌, ◌++◌}
-use Rattle.or_model.specs.Turn.{Board}
-use Rattle.or_replay.specs.Board.{IsBoard}
-use Rattle.or_debug.specs.Shown.{index_lines}
-use Rattle.or_debug.proofs.shown.append_indexes.Given as goal
-
-abbrev pub invariant-loop-index : goal.invariant-loop-index
-invariant-loop-index l = (now : Board) → IsBoard l.board.cores l.board.bus now → l.text.items ≡ l.initial.text.items ++ index_lines now.world.accesses l.core l.index
