@@ -11,7 +11,8 @@ use Rattle.std.proofs.lemmas.Bool.Decides.{nat_tests}
 use Rattle.std.proofs.lemmas.Fmt.{digits_is_IsNumeral, decimal_is_IsNumeral, decimal_digit, decimal_step}
 use Rattle.or_text.specs.Hexadecimal.{hexadecimal}
 use Rattle.or_asm_text.specs.Texts.{register_text}
-use Rattle.or_asm_read.specs.Numbers.{are_digits, capped_value, magnitude_of, number_of, has_leading_zero, register_of}
+use Rattle.or_text.specs.Numerals.{are_digits, value_of, magnitude_of, has_leading_zero}
+use Rattle.or_asm_read.specs.Numbers.{number_of, register_of}
 
 all_digits : (base : ℕ) (ds : List ℕ) → AllDigits base ds → list_all (λ b. is_digit b base) ds ≡ true
 all_digits base [] h = refl
@@ -23,13 +24,13 @@ pub numeral : (base : ℕ) (ds : List ℕ) → IsNumeral base ds → are_digits 
 numeral base [] h = absurd (omega arith)
 numeral base (c ∷ cs) h = all_digits base (c ∷ cs) h.1
 
-sized : (base n : ℕ) (ds : List ℕ) → IsNumeral base ds → digits_value base ds ≡ n → n < 2 ^ 32 → capped_value base ds ≡ Some n
-unfolding capped_value
+sized : (base n : ℕ) (ds : List ℕ) → IsNumeral base ds → digits_value base ds ≡ n → n < 2 ^ 32 → value_of base ds ≡ Some n
+unfolding value_of
 sized base n ds h e small =
     let cap : min (digits_value base ds) (2 ^ 32) ≡ n = omega arith in
     ap (λ t. cond t (Some (min (digits_value base ds) (2 ^ 32))) None) (numeral base ds h) ∙ ap (λ m. Some m) cap
 
-size_hex : (n : ℕ) → n < 2 ^ 32 → capped_value 16 (digits 16 true n) ≡ Some n
+size_hex : (n : ℕ) → n < 2 ^ 32 → value_of 16 (digits 16 true n) ≡ Some n
 size_hex n small =
     let h = digits_is_IsNumeral 16 true (lit≤ tt) (lit≤ tt) n (lt_of_lt_of_le small (lit≤ tt)) in
     sized 16 n (digits 16 true n) h.0 h.1 small
@@ -49,13 +50,13 @@ and_false : (a : Bool) → (a && false) ≡ false
 and_false true = refl
 and_false false = refl
 
-pub natural_digits : (ds : List ℕ) → AllDigits 10 ds → magnitude_of ds ≡ capped_value 10 ds
+pub natural_digits : (ds : List ℕ) → AllDigits 10 ds → magnitude_of ds ≡ value_of 10 ds
 natural_digits [] h = refl
 natural_digits (c ∷ []) h = refl
 natural_digits (c ∷ d ∷ ds) h =
     let no : eqb d 120 ≡ false = not_byte d 120 (lit≤ tt) h.1.0 in
-    ap (λ t. cond (eqb c 48 && t) (capped_value 16 ds) (capped_value 10 (c ∷ d ∷ ds))) no
-    ∙ ap (λ t. cond t (capped_value 16 ds) (capped_value 10 (c ∷ d ∷ ds))) (and_false (eqb c 48))
+    ap (λ t. cond (eqb c 48 && t) (value_of 16 ds) (value_of 10 (c ∷ d ∷ ds))) no
+    ∙ ap (λ t. cond t (value_of 16 ds) (value_of 10 (c ∷ d ∷ ds))) (and_false (eqb c 48))
 
 pub number_digits : (ds : List ℕ) → IsNumeral 10 ds → number_of ds ≡ option_map pos (magnitude_of ds)
 unfolding number_of

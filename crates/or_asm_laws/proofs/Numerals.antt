@@ -8,7 +8,8 @@ use Rattle.std.proofs.lemmas.Bool.Decides.{nat_tests}
 use Rattle.std.proofs.lemmas.Fmt.{decimal-digits_value}
 use Rattle.std.proofs.lemmas.Str.Parse.{numerals_by_value, tells_digits}
 use Rattle.or_asm_text.specs.Texts.{register_text}
-use Rattle.or_asm_read.specs.Numbers.{are_digits, capped_value, magnitude_of, number_of, has_leading_zero, register_of}
+use Rattle.or_text.specs.Numerals.{are_digits, value_of, magnitude_of, has_leading_zero}
+use Rattle.or_asm_read.specs.Numbers.{number_of, register_of}
 use Rattle.or_asm_laws.specs.Numerals.{Spells, SpellsMagnitude, SpellsNumber}
 use Rattle.or_asm_laws.proofs.Spelled.{and_true, not_true}
 use Rattle.or_asm_laws.proofs.Numbers.{numeral, natural_digits, number_digits}
@@ -30,18 +31,18 @@ chosen true x y e = (refl, cc)
 chosen false x y e = absurd cc
 
 -- sizes
-size_says : (base n : ℕ) (ds : List ℕ) → capped_value base ds ≡ Some n → Spells base ds n
-unfolding capped_value
+size_says : (base n : ℕ) (ds : List ℕ) → value_of base ds ≡ Some n → Spells base ds n
+unfolding value_of
 size_says base n ds h =
     let c = chosen (are_digits base ds) (min (digits_value base ds) (2 ^ 32)) n h in
     record { numeral = are_numeral base ds c.0; value = c.1 }
 
-says_size : (base n : ℕ) (ds : List ℕ) → Spells base ds n → capped_value base ds ≡ Some n
-unfolding capped_value
+says_size : (base n : ℕ) (ds : List ℕ) → Spells base ds n → value_of base ds ≡ Some n
+unfolding value_of
 says_size base n ds h =
     ap (λ t. cond t (Some (min (digits_value base ds) (2 ^ 32))) None) (numeral base ds h.numeral) ∙ ap (λ m. Some m) h.value
 
-hex_or_not : (c d n : ℕ) (ds : List ℕ) (t u : Bool) → eqb c 48 ≡ t → eqb d 120 ≡ u → cond (t && u) (capped_value 16 ds) (capped_value 10 (c ∷ d ∷ ds)) ≡ Some n → SpellsMagnitude (c ∷ d ∷ ds) n
+hex_or_not : (c d n : ℕ) (ds : List ℕ) (t u : Bool) → eqb c 48 ≡ t → eqb d 120 ≡ u → cond (t && u) (value_of 16 ds) (value_of 10 (c ∷ d ∷ ds)) ≡ Some n → SpellsMagnitude (c ∷ d ∷ ds) n
 hex_or_not c d n ds true true e f h =
     let zero_first : c ≡ 48 = grind (arith, nat_tests) in
     let x_second : d ≡ 120 = grind (arith, nat_tests) in

@@ -21,7 +21,8 @@ use Rattle.or_asm_read.specs.declared.fault.Fault.TheVariants.{BadLine, OutOfRan
 use Rattle.or_asm_read.specs.declared.operands.Operand.{Operand}
 use Rattle.or_asm_read.specs.Cuts.{is_label_byte, is_label, before, after, has}
 use Rattle.or_asm_read.specs.Faults.{lesser_fault}
-use Rattle.or_asm_read.specs.Numbers.{is_hexadecimal, number_of, register_of}
+use Rattle.or_text.specs.Numerals.{is_hexadecimal}
+use Rattle.or_asm_read.specs.Numbers.{number_of, register_of}
 use Rattle.or_asm_read.specs.Operands.{within, ranged, operand_of, as_value, with_value, unsigned_half, constant_at, greatest_immediate, immediate_at, register_at, number_at, bits_of, half_at, half_or, before_bracket, in_brackets, is_bracketed, is_empty, value_at, plain_at, offset_of, quarter, jump_at, address_operand, memory_at, slot_at, placed}
 use Rattle.or_asm_read.specs.Labels.{Labels}
 use Rattle.or_asm_laws.proofs.SlotFits.{IsNatural, SlotFits}

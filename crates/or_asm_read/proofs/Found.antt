@@ -19,7 +19,8 @@ use Rattle.or_asm_read.specs.declared.fault.Fault.TheVariants.{BadLine, OutOfRan
 use Rattle.or_asm_read.specs.declared.operands.Operand.{Operand}
 use Rattle.or_asm_read.specs.Cuts.{trimmed, before, after}
 use Rattle.or_asm_read.specs.Faults.{lesser_fault}
-use Rattle.or_asm_read.specs.Numbers.{are_digits, has_leading_zero, number_of, register_of}
+use Rattle.or_asm_read.specs.Numbers.{number_of, register_of}
+use Rattle.or_text.specs.Numerals.{are_digits, has_leading_zero}
 use Rattle.or_asm_read.specs.Operands.{within, ranged, as_value, with_value, unsigned_half, constant_at, optional_at, greatest_immediate, immediate_at, register_at, bits_of, half_at, half_or, before_bracket, in_brackets, is_bracketed, value_at, offset_of, quarter, jump_at, address_operand, memory_at, slot_at, placed, is_empty, operands_at}
 use Rattle.or_asm_read.specs.Labels.{Labels}
 

@@ -12,7 +12,8 @@ use Rattle.or_asm_read.specs.declared.operands.Operand.{Operand}
 use Rattle.or_asm_read.specs.Cuts.{is_label, before, after, has, trimmed}
 use Rattle.or_asm_read.specs.Faults.{lesser_fault}
 use Rattle.or_asm_read.specs.Labels.{Labels, place_of}
-use Rattle.or_asm_read.specs.Numbers.{is_hexadecimal, number_of, register_of}
+use Rattle.or_asm_read.specs.Numbers.{number_of, register_of}
+use Rattle.or_text.specs.Numerals.{is_hexadecimal}
 
 -- what is between the two, or a fault
 abbrev pub within : ℤ → ℤ → ℤ → Result ℤ Fault

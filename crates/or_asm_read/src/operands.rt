@@ -10,8 +10,9 @@ ghost use Rattle.or_asm_read.specs.Faults.{lesser_fault};
 use crate::cuts::{after, before, has, is_label, trim};
 use crate::fault::{Fault, lesser};
 use crate::labels::LabelTable;
-use crate::numbers::{is_hexadecimal, number, register};
+use crate::numbers::{number, register};
 use or_asm_text::operands::{Operands, Slot};
+use or_text::numerals::is_hexadecimal;
 
 /// What an operand says: a register, a number, or both.
 #[derive(Clone, Copy)]

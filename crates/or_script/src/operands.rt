@@ -2,7 +2,7 @@
 ghost use Rattle.std.specs.Prelude.{◌≡◌, ◌≤◌, ◌^◌, IfSome};
 ghost use Rattle.or_script.specs.Operands.{number_of, core_number, cores_named};
 
-use or_text::numerals::{has_leading_zero, size};
+use or_text::numerals::{has_leading_zero, read_digits};
 
 /// A number in decimal, or behind `0x` in hexadecimal digits of either case; leading zeros may stand. From 2^32 on all
 /// count as 2^32. `None` where the text is no number.
@@ -11,8 +11,8 @@ pub fn number(text: &[u8]) -> Option<u64>
     ensures within { IfSome result (λ n. n ≤ 2 ^ 32) }
 {
     match text {
-        [b'0', b'x', digits @ ..] => size(16, digits),
-        _ => size(10, text),
+        [b'0', b'x', digits @ ..] => read_digits(16, digits),
+        _ => read_digits(10, text),
     }
 }
 
@@ -24,7 +24,7 @@ pub fn core_number(text: &[u8]) -> Option<u64>
     if has_leading_zero(text) {
         None
     } else {
-        size(10, text)
+        read_digits(10, text)
     }
 }
 

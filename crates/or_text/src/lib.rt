@@ -133,7 +133,7 @@ mod tests {
             assert_eq!(rt; numerals::read_decimal(text.as_bytes()), number, "`{text}`");
         }
         assert_eq!(rt;
-            numerals::size(16, b"fFfFfFfFfF"),
+            numerals::read_digits(16, b"fFfFfFfFfF"),
             Some(0x1_0000_0000),
             "ten digits"
         );

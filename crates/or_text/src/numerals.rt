@@ -1,7 +1,7 @@
 //! Numbers read from text.
 ghost use Rattle.std.specs.Prelude.{◌≡◌, ◌+◌, ◌*◌, ◌≤◌, ◌<◌, ◌^◌, min, IfSome, nat_lt, if◌then◌else◌};
 ghost use Rattle.std.specs.Char.{digit_value};
-ghost use Rattle.or_text.specs.Numerals.{value_of, decimal_of, has_leading_zero};
+ghost use Rattle.or_text.specs.Numerals.{value_of, decimal_of, has_leading_zero, is_hexadecimal, magnitude_of};
 
 const TOO_LARGE: u64 = 1 << 32;
 
@@ -27,7 +27,7 @@ fn append(value: u64, base: u8, digit: u8) -> u64
 /// The number that digits of a base from 1 to 36 write, in either case; from 2^32 on all count as 2^32.
 /// `None` where the text is empty or has another byte.
 #[tactic(auto, using(crate::proofs::Sizes::sizes), unfolding(crate::specs::Numerals::value_of))]
-pub fn size(base: u8, text: &[u8]) -> Option<u64>
+pub fn read_digits(base: u8, text: &[u8]) -> Option<u64>
     requires low { 1 ≤ base }
     requires high { base ≤ 36 }
     ensures is { result ≡ value_of base text.now }
@@ -49,6 +49,28 @@ pub fn size(base: u8, text: &[u8]) -> Option<u64>
     Some(value)
 }
 
+/// Whether `0x` stands in front.
+pub fn is_hexadecimal(text: &[u8]) -> bool
+    ensures { result ≡ is_hexadecimal text.now }
+{
+    match text {
+        [b'0', b'x', ..] => true,
+        _ => false,
+    }
+}
+
+/// The number that decimal digits write, or hexadecimal digits in either case behind `0x`; from 2^32 on all count as 2^32.
+/// `None` where there are no digits or another byte stands among them.
+pub fn read_magnitude(text: &[u8]) -> Option<u64>
+    ensures is { result ≡ magnitude_of text.now }
+    ensures within { IfSome result (λ n. n ≤ 2 ^ 32) }
+{
+    match text {
+        [b'0', b'x', digits @ ..] => read_digits(16, digits),
+        _ => read_digits(10, text),
+    }
+}
+
 /// Whether a text has more than one byte, of which the first is `0`.
 pub fn has_leading_zero(text: &[u8]) -> bool
     ensures { result ≡ has_leading_zero text.now }
@@ -67,7 +89,7 @@ pub fn read_decimal(text: &[u8]) -> Option<u32>
     if has_leading_zero(text) {
         return None;
     }
-    match size(10, text) {
+    match read_digits(10, text) {
         Some(number) => narrow(number),
         None => None,
     }

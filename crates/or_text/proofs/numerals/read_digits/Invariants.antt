@@ -2,8 +2,8 @@ use Rattle.std.proofs.Common.{◌≡◌, ◌≤◌, ◌^◌, length, min}
 use Rattle.std.specs.Char.{is_digit}
 use Rattle.std.specs.List.{list_all}
 use Rattle.std.specs.Str.Parse.{digits_value, digits_value_after}
-use Rattle.or_asm_read.specs.Numbers.{are_digits}
-use Rattle.or_asm_read.proofs.numbers.capped_value.Given as goal
+use Rattle.or_text.specs.Numerals.{are_digits}
+use Rattle.or_text.proofs.numerals.read_digits.Given as goal
 
 -- what is left decides whether all are digits, and completes the number
 abbrev pub invariant-loop-byte : goal.invariant-loop-byte

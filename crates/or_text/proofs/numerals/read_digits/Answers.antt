@@ -1,6 +1,6 @@
 use Rattle.std.proofs.Common.{arith, rules}
 use Rattle.or_text.proofs.Sizes.{form_step, number_step}
-use Rattle.or_text.proofs.numerals.size.Goals as goal
+use Rattle.or_text.proofs.numerals.read_digits.Goals as goal
 
 pub loop-byte-preserved : goal.loop-byte-preserved
 loop-byte-preserved c = record {
