@@ -1,6 +1,5 @@
 pub mod Ranges
 pub mod Caches
 pub mod Tracks
-pub mod Reserved
 pub mod Worlds
 pub mod Regions

@@ -24,7 +24,7 @@ use Rattle.or_bus.specs.Writing.{own_lines_after, AreWritten, IsWritten}
 use Rattle.or_bus.specs.Represents.{Represents}
 use Rattle.or_bus.proofs.Caches.{coherent-filled, coherent-dropped, coherent-dropped_stored, coherent-updated, length-filled, length-dropped, length-updated}
 use Rattle.or_bus.proofs.Tracks.{holds-held_word, load_of, store_of, drop_of, IsAsTold, IsCount, told-hit, told-miss, told-other_load, told-own_store, told-other_store, told-own_drop, told-other_drop, count-hit, count-miss, count-other, count-same}
-use Rattle.or_bus.proofs.Reserved.{IsSlotOf, slot-marked, slot-wrote}
+use Rattle.or_reservations.proofs.Histories.{IsSlotOf, slot-marked, slot-wrote}
 
 none_is_some : {X : Type 0} {x : X} → ◌≡◌ {A = Option X} None (Some x) → ⊥
 none_is_some e = cc

@@ -3,15 +3,19 @@ use Rattle.std.proofs.Common.{◌≡◌, ℕ, zero, suc, ◌≤◌, Bool, true, 
 use Rattle.std.specs.Prelude.{Option, slice_index_or, ◌==◌, ◌&&◌, ◌||◌, not, map}
 use Rattle.std.specs.List.{list_any}
 use Rattle.std.proofs.lemmas.Bool.Decides.{nat_tests}
-use Rattle.std.proofs.lemmas.List.{drop-append-le, get_or-map}
+use Rattle.std.proofs.lemmas.List.{drop-append-le, drop_all, get_or-map}
 use Rattle.std.proofs.lemmas.List.Folds.{list_any-append}
 use Rattle.or_parts.specs.Reservation.{ReservationMark, is_unwritten_since, stands_by}
 use Rattle.or_reservations.specs.Slots.{is_for, after_write}
 use Rattle.or_reservations.specs.Tracks.{Tracks, mark_of}
 
 -- a slot is for the words that the mark stands for
-abbrev IsSlotOf : List (ℕ × ℕ) → Option ReservationMark → Option ℕ → Type 0
+abbrev pub IsSlotOf : List (ℕ × ℕ) → Option ReservationMark → Option ℕ → Type 0
 IsSlotOf writes mark slot = (word : ℕ) → is_for word slot ≡ stands_by writes word mark
+
+-- a mark behind all writes stands for its word alone
+pub slot-marked : (writes : List (ℕ × ℕ)) (word : ℕ) → IsSlotOf writes (Some (word, length writes)) (Some word)
+slot-marked writes word other = rw (drop_all (length writes) writes (omega arith)) (grind (arith, nat_tests))
 
 any_more : (writes : List (ℕ × ℕ)) (c at k word : ℕ) → k ≤ length writes → list_any (λ write. write.1 == word) (drop k (writes ++ (c, at) ∷ [])) ≡ (list_any (λ write. write.1 == word) (drop k writes) || (at == word || false))
 any_more writes c at k word h = ap (list_any (λ write. write.1 == word)) (drop-append-le k writes ((c, at) ∷ []) h) ∙ list_any-append (λ write. write.1 == word) (drop k writes) ((c, at) ∷ [])
@@ -36,7 +40,7 @@ unwritten_more writes c at word mark h =
     ∙ both_not (mark.0 == word) (list_any (λ write. write.1 == word) (drop mark.1 writes)) (at == word)
 
 -- a write ends the reservations of its word, and no other
-slot-wrote : (writes : List (ℕ × ℕ)) (c at : ℕ) (mark : Option ReservationMark) (slot : Option ℕ) → ((word k : ℕ) → mark ≡ Some (word, k) → k ≤ length writes) → IsSlotOf writes mark slot → IsSlotOf (writes ++ (c, at) ∷ []) mark (after_write at slot)
+pub slot-wrote : (writes : List (ℕ × ℕ)) (c at : ℕ) (mark : Option ReservationMark) (slot : Option ℕ) → ((word k : ℕ) → mark ≡ Some (word, k) → k ≤ length writes) → IsSlotOf writes mark slot → IsSlotOf (writes ++ (c, at) ∷ []) mark (after_write at slot)
 slot-wrote writes c at None slot reached is word = is_for-after_write word at slot ∙ ap (λ b. b && not (at == word)) (is word)
 slot-wrote writes c at (Some mark) slot reached is word =
     is_for-after_write word at slot ∙ ap (λ b. b && not (at == word)) (is word) ∙ sym (unwritten_more writes c at word mark (reached mark.0 mark.1 refl))
