@@ -19,7 +19,14 @@ use Rattle.or_back.specs.declared.lines.BackCommand.{BackCommand}
 use Rattle.or_back.specs.declared.lines.BackCommand.TheVariants.{Plain}
 use Rattle.or_back.specs.Session.{back_answer, back_session_from}
 use Rattle.or_back.specs.Tells.{Tells}
-use Rattle.or_back.specs.Backward.{state_at, StandsBack, IsBackAnswered, IsAppended, IsBackUpTo, IsFront}
+use Rattle.or_back.specs.Backward.{state_at, StandsBack, IsBackAnswered, IsAppended, IsFront}
+
+-- the commands up to a place were answered
+pub record IsBackUpTo (start : Board) (turns : List ℕ) (first : State) (commands : List BackCommand) (place : ℕ) (before later : List ℕ) (history : History) (stops : Stops) : Type 0 where
+  pub stands : StandsBack history stops start turns
+  pub front : List ℕ
+  pub text : later ≡ before ++ front
+  pub parts : back_session_from start turns first commands ≡ front ++ back_session_from start turns (state_at history.at stops) (drop place commands)
 
 -- the command at a place, and those behind it
 at_place : (commands : List BackCommand) (place : ℕ) (command : BackCommand) → place < length commands → drop place commands ≡ get_or commands place command ∷ drop (place + 1) commands

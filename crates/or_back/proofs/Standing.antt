@@ -5,19 +5,24 @@ use Rattle.circular_buffer.specs.Buffer.{buffer}
 use Rattle.or_model.specs.Turn.{Board}
 use Rattle.or_replay.specs.Board.{IsBoard}
 use Rattle.or_script.specs.declared.command.Command.TheVariants.{Go}
+use Rattle.or_debug.specs.declared.debugger.Debugger.{Debugger}
 use Rattle.or_debug.specs.declared.turns.MadeTurn.{MadeTurn}
 use Rattle.or_debug.specs.declared.stops.Stops.{Stops}
 use Rattle.or_debug.specs.Turns.{turn_made, turns_made, last_of}
 use Rattle.or_debug.specs.Points.{Points}
 use Rattle.or_debug.specs.Hits.{hits_of}
 use Rattle.or_debug.specs.Session.{end_line}
-use Rattle.or_debug.specs.Standing.{IsAfter, IsMade, IsFollowed, IsGoing, IsAnswered, Stands, HasSeen, HasLooked, points_of}
+use Rattle.or_debug.specs.Standing.{IsAfter, IsMade, IsFollowed, IsAnswered, Stands, HasSeen, HasLooked, points_of}
 use Rattle.or_debug.proofs.Seen.{followed, seen_behind}
-use Rattle.or_debug.proofs.Going.{going_none, going_on, going_hits, going_ends}
+use Rattle.or_debug.proofs.Going.{going_none, going_on, going_hits, going_ends, IsGoing}
 use Rattle.or_back.specs.declared.history.History.{History}
 use Rattle.or_back.specs.declared.lines.BackCommand.TheVariants.{Plain}
 use Rattle.or_back.specs.Tells.{Tells}
-use Rattle.or_back.specs.Backward.{debugger_at, StandsBack, IsNext, IsThere, IsBackAnswered}
+use Rattle.or_back.specs.Backward.{StandsBack, IsNext, IsThere, IsBackAnswered}
+
+-- the debugger that has followed the first so many turns, with these points
+abbrev pub debugger_at : Board → List ℕ → ℕ → Stops → Debugger
+debugger_at start turns n stops = record { turn = n; stops = stops; last = buffer (last_of 64 (turns_made start turns n)) 64 }
 
 -- the debugger of the first turns stands there
 pub stands_of : (start : Board) (turns : List ℕ) (history : History) (stops : Stops) → StandsBack history stops start turns

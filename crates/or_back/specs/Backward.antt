@@ -1,13 +1,11 @@
 -- How the backward debugger stands, and what it answers.
-use Rattle.std.specs.Prelude.{◌≡◌, ℕ, ◌+◌, min, List, ◌++◌, Option, Some, None, drop, length, Result, Ok, Err}
+use Rattle.std.specs.Prelude.{◌≡◌, ℕ, ◌+◌, min, List, ◌++◌, Option, Some, None, length, Result, Ok, Err}
 use Rattle.std.specs.Option.{option_or}
-use Rattle.circular_buffer.specs.Buffer.{buffer}
 use Rattle.or_script.specs.declared.command.LineFault.{LineFault}
 use Rattle.or_script.specs.declared.fault.ScriptFault.{ScriptFault}
 use Rattle.or_script.specs.declared.fault.ScriptFault.TheVariants.{BadCommand, OutOfRange, NoMemory}
 use Rattle.or_model.specs.Turn.{Board}
-use Rattle.or_debug.specs.declared.debugger.Debugger.{Debugger}
-use Rattle.or_debug.specs.Turns.{after, turns_made, last_of}
+use Rattle.or_debug.specs.Turns.{after}
 use Rattle.or_debug.specs.Points.{Points}
 use Rattle.or_debug.specs.Hits.{ram_in, hit_lines}
 use Rattle.or_debug.specs.Session.{State, at_line}
@@ -16,12 +14,8 @@ use Rattle.or_back.specs.declared.history.History.{History}
 use Rattle.or_debug.specs.declared.stops.Stops.{Stops}
 use Rattle.or_back.specs.declared.lines.BackCommand.{BackCommand}
 use Rattle.or_back.specs.Script.{back_fault_of}
-use Rattle.or_back.specs.Session.{last_hit, back_state_after, back_answer, back_session_from}
+use Rattle.or_back.specs.Session.{last_hit, back_state_after, back_answer}
 use Rattle.or_back.specs.Tells.{Tells}
-
--- the debugger that has followed the first so many turns, with these points
-abbrev pub debugger_at : Board → List ℕ → ℕ → Stops → Debugger
-debugger_at start turns n stops = record { turn = n; stops = stops; last = buffer (last_of 64 (turns_made start turns n)) 64 }
 
 -- the state at a turn, with these points
 abbrev pub state_at : ℕ → Stops → State
@@ -70,13 +64,6 @@ pub record IsAppended (start : Board) (turns : List ℕ) (old : History) (old_st
   pub stands : StandsBack new new_stops start turns
   pub state : state_at new.at new_stops ≡ back_state_after start turns (state_at old.at old_stops) command
   pub text : later ≡ before ++ back_answer start turns (state_at old.at old_stops) command
-
--- the commands up to a place were answered
-pub record IsBackUpTo (start : Board) (turns : List ℕ) (first : State) (commands : List BackCommand) (place : ℕ) (before later : List ℕ) (history : History) (stops : Stops) : Type 0 where
-  pub stands : StandsBack history stops start turns
-  pub front : List ℕ
-  pub text : later ≡ before ++ front
-  pub parts : back_session_from start turns first commands ≡ front ++ back_session_from start turns (state_at history.at stops) (drop place commands)
 
 -- the front of a text was appended
 pub record IsFront (whole before later : List ℕ) : Type 0 where

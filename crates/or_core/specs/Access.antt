@@ -56,8 +56,14 @@ abbrev pub access_at : Core → World → AccessKind → Route → Option Access
 access_at core world kind (Refused cause) = None
 access_at core world kind (At pa cached) = if in_ram world pa && is_made core world pa kind then Some (access_of core.number pa kind) else None
 
+abbrev pub operand_address : Core → MemoryOperand → ℕ
+operand_address core operand = plus (register core operand.base) (immediate operand.offset)
+
+abbrev pub operand_route : Core → MemoryOperand → Route
+operand_route core operand = data_route core (operand_address core operand) operand.width (right_of operand.kind)
+
 abbrev pub access_by : Core → World → MemoryOperand → Option Access
-access_by core world memory_operand = access_at core world memory_operand.kind (data_route core (plus (register core memory_operand.base) (immediate memory_operand.offset)) memory_operand.width (right_of memory_operand.kind))
+access_by core world operand = access_at core world operand.kind (operand_route core operand)
 
 -- the access of an instruction
 abbrev pub access_of_insn : Core → World → Option Insn → Option Access

@@ -10,7 +10,13 @@ use Rattle.or_debug.specs.Points.{Points}
 use Rattle.or_debug.specs.declared.debugger.Debugger.{Debugger}
 use Rattle.or_debug.specs.Hits.{hit_lines, first_hit, is_empty}
 use Rattle.or_debug.specs.Session.{State, next_hit, stop_turn, stop_text, end_line}
-use Rattle.or_debug.specs.Standing.{Stands, IsFollowed, IsGoing, IsAnswered, points_of, state_of}
+use Rattle.or_debug.specs.Standing.{Stands, IsFollowed, IsAnswered, points_of, state_of}
+
+-- turns were followed that hit nothing
+pub record IsGoing (start : Board) (turns : List ℕ) (old new : Debugger) (cores : List Core) (bus : BusState) : Type 0 where
+  pub stands : Stands start turns new cores bus
+  pub points : points_of new.stops ≡ points_of old.stops
+  pub next : next_hit start turns (state_of new) ≡ next_hit start turns (state_of old)
 
 -- whether a list is empty, by its length
 pub empty_length : (l : List ℕ) → eqb (length l) 0 ≡ true → l ≡ []

@@ -14,7 +14,15 @@ use Rattle.or_debug.specs.Hits.{ram_in}
 use Rattle.or_debug.specs.declared.debugger.Debugger.{Debugger}
 use Rattle.or_debug.specs.Session.{State, first_state, answer, session_from, state_behind, session_text}
 use Rattle.or_debug.specs.Standing.{IsAfter, Reaches, Stands, HasSeen, state_of}
-use Rattle.or_debug.specs.Answers.{IsPart, IsAdded, IsUpTo, AreAnswered, SomeAnswered, IsRun, IsRunInPart}
+use Rattle.or_debug.specs.Answers.{IsPart, IsAdded, AreAnswered, SomeAnswered, IsRun, IsRunInPart}
+
+-- the commands up to a place were answered
+pub record IsUpTo (start : Board) (turns : List ℕ) (first : State) (commands : List Command) (place : ℕ) (before later : List ℕ) (debugger : Debugger) (cores : List Core) (bus : BusState) : Type 0 where
+  pub stands : Stands start turns debugger cores bus
+  pub front : List ℕ
+  pub text : later ≡ before ++ front
+  pub parts : session_from start turns first commands ≡ front ++ session_from start turns (state_of debugger) (drop place commands)
+  pub state : state_behind start turns first commands ≡ state_behind start turns (state_of debugger) (drop place commands)
 
 -- the command at a place, and those behind it
 at_place : (commands : List Command) (place : ℕ) (command : Command) → place < length commands → drop place commands ≡ get_or commands place command ∷ drop (place + 1) commands

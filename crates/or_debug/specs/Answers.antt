@@ -1,5 +1,5 @@
 -- What a session answers, and what it leaves.
-use Rattle.std.specs.Prelude.{◌≡◌, ℕ, ◌++◌, List, Some, None, drop, Result, Ok, Err}
+use Rattle.std.specs.Prelude.{◌≡◌, ℕ, ◌++◌, List, Some, None, Result, Ok, Err}
 use Rattle.or_words.specs.declared.Config.{Config}
 use Rattle.or_script.specs.declared.command.Command.{Command}
 use Rattle.or_script.specs.declared.command.LineFault.{LineFault}
@@ -39,14 +39,6 @@ pub record IsAdded (start : Board) (turns : List ℕ) (old : Debugger) (command 
   pub stands : Stands start turns new cores bus
   pub state : state_of new ≡ state_after start turns (state_of old) command
   pub text : later ≡ before ++ answer start turns (state_of old) command
-
--- the commands up to a place were answered
-pub record IsUpTo (start : Board) (turns : List ℕ) (first : State) (commands : List Command) (place : ℕ) (before later : List ℕ) (debugger : Debugger) (cores : List Core) (bus : BusState) : Type 0 where
-  pub stands : Stands start turns debugger cores bus
-  pub front : List ℕ
-  pub text : later ≡ before ++ front
-  pub parts : session_from start turns first commands ≡ front ++ session_from start turns (state_of debugger) (drop place commands)
-  pub state : state_behind start turns first commands ≡ state_behind start turns (state_of debugger) (drop place commands)
 
 -- all commands were answered
 pub record AreAnswered (start : Board) (turns : List ℕ) (first : State) (commands : List Command) (before later : List ℕ) (debugger : Debugger) (cores : List Core) (bus : BusState) : Type 0 where

@@ -14,7 +14,7 @@ use Rattle.or_debug.specs.declared.stops.Stops.{Stops}
 use Rattle.or_debug.specs.Turns.{after, turn_made, turns_made, last_of}
 use Rattle.or_debug.specs.Points.{Points}
 use Rattle.or_debug.specs.Hits.{ram_in, change_line, store_words, hit_lines}
-use Rattle.or_debug.specs.Session.{State, state_after, next_hit, answer}
+use Rattle.or_debug.specs.Session.{State, state_after, answer}
 
 -- all turns of a schedule can be made from a board
 abbrev pub CanFollow : Board → List ℕ → Type 0
@@ -87,12 +87,6 @@ pub record IsFollowed (start : Board) (turns : List ℕ) (old : Debugger) (befor
   pub stands : Stands start turns new cores bus
   pub state : state_of new ≡ record { turn = old.turn + 1; points = points_of old.stops }
   pub text : later ≡ before ++ hit_lines start turns (points_of old.stops) old.turn
-
--- turns were followed that hit nothing
-pub record IsGoing (start : Board) (turns : List ℕ) (old new : Debugger) (cores : List Core) (bus : BusState) : Type 0 where
-  pub stands : Stands start turns new cores bus
-  pub points : points_of new.stops ≡ points_of old.stops
-  pub next : next_hit start turns (state_of new) ≡ next_hit start turns (state_of old)
 
 -- a command was answered, and the debugger stands behind it
 pub record IsAnswered (start : Board) (turns : List ℕ) (old : Debugger) (command : Command) (written : List ℕ) (new : Debugger) (cores : List Core) (bus : BusState) : Type 0 where

@@ -1,5 +1,5 @@
 -- A drawn schedule that is made further.
-use Rattle.std.proofs.Common.{◌≡◌, ℕ, ◌+◌, ◌<◌, zero, suc, List, [], ◌∷◌, ◌++◌, Some, None, length, refl, ap, sym, ◌∙◌, subst, true, false, cond, append_assoc, append-nil, arith}
+use Rattle.std.proofs.Common.{◌≡◌, ℕ, ◌+◌, ◌<◌, ◌≤◌, zero, suc, List, [], ◌∷◌, ◌++◌, Some, None, length, refl, ap, sym, ◌∙◌, subst, true, false, cond, append_assoc, append-nil, arith}
 use Rattle.std.specs.Prelude.{Option, Ok, Err, is_none}
 use Rattle.or_model.specs.declared.Stop.{Stop}
 use Rattle.or_model.specs.Core.{Core}
@@ -14,7 +14,21 @@ use Rattle.or_replay.proofs.Followable.{get_some}
 use Rattle.or_hunt.specs.declared.made.Made.{Made}
 use Rattle.or_hunt.specs.Draws.{next_state}
 use Rattle.or_hunt.specs.Drawn.{stretch, stretches, drawn_stretch, turns_on}
-use Rattle.or_hunt.specs.Making.{IsMade, IsLonger, IsStretched, IsStretching, IsUnderWay, IsWhole}
+use Rattle.or_hunt.specs.Making.{IsMade, IsLonger, IsStretched, IsWhole}
+
+-- a stretch was begun, of which at most so many turns are left
+pub record IsStretching (start : Board) (old new : Made) (cores : List Core) (bus : BusState) (c : ℕ) (now : Board) (most left : ℕ) : Type 0 where
+  pub done : List ℕ
+  pub so_far : IsStretched start old new cores bus now done
+  pub rest : stretch most c now ≡ done ++ stretch left c so_far.next
+
+-- the first stretches of a drawn schedule were made, behind which this is the state of the draws
+pub record IsUnderWay (start : Board) (greatest : List ℕ) (first x : ℕ) (made : Made) (cores : List Core) (bus : BusState) : Type 0 where
+  pub now : Board
+  pub is_made : IsMade start made cores bus now
+  pub left : ℕ
+  pub enough : steps_left cores ≤ left
+  pub rest : stretches (steps_left start.cores) greatest first start ≡ made.turns.items ++ stretches left greatest x now
 
 -- a turn that was made is added
 pub longer_by : (start now : Board) (turned : Option Board) (old new : Made) (new_cores : List Core) (new_bus : BusState) (c : ℕ) (done : Unit {0})

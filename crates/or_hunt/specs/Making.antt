@@ -1,9 +1,9 @@
 -- A drawn schedule that is being made.
-use Rattle.std.specs.Prelude.{◌≡◌, ◌≤◌, ◌++◌, [], ◌∷◌, ℕ, List, Some, None, Bool, true, false}
+use Rattle.std.specs.Prelude.{◌≡◌, ◌++◌, [], ◌∷◌, ℕ, List, Some, None, Bool, true, false}
 use Rattle.or_model.specs.Core.{Core}
 use Rattle.or_model.specs.Turn.{Board, board_turned, replay}
 use Rattle.or_bus.specs.State.{BusState}
-use Rattle.or_replay.specs.Board.{IsBoard, all_stopped, steps_left}
+use Rattle.or_replay.specs.Board.{IsBoard, all_stopped}
 use Rattle.or_replay.specs.Marks.{marks}
 use Rattle.or_hunt.specs.declared.made.Made.{Made}
 use Rattle.or_hunt.specs.Drawn.{drawn, stretch, stretches}
@@ -32,20 +32,6 @@ pub record IsStretched (start : Board) (old new : Made) (cores : List Core) (bus
   pub is_made : IsMade start new cores bus next
   pub longer : new.turns.items ≡ old.turns.items ++ turns
   pub stretched : replay now turns ≡ Some next
-
--- a stretch was begun, of which at most so many turns are left
-pub record IsStretching (start : Board) (old new : Made) (cores : List Core) (bus : BusState) (c : ℕ) (now : Board) (most left : ℕ) : Type 0 where
-  pub done : List ℕ
-  pub so_far : IsStretched start old new cores bus now done
-  pub rest : stretch most c now ≡ done ++ stretch left c so_far.next
-
--- the first stretches of a drawn schedule were made, behind which this is the state of the draws
-pub record IsUnderWay (start : Board) (greatest : List ℕ) (first x : ℕ) (made : Made) (cores : List Core) (bus : BusState) : Type 0 where
-  pub now : Board
-  pub is_made : IsMade start made cores bus now
-  pub left : ℕ
-  pub enough : steps_left cores ≤ left
-  pub rest : stretches (steps_left start.cores) greatest first start ≡ made.turns.items ++ stretches left greatest x now
 
 -- all stretches were made
 pub record IsWhole (start : Board) (turns : List ℕ) (made : Made) (cores : List Core) (bus : BusState) : Type 0 where

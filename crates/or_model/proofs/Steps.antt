@@ -19,9 +19,15 @@ use Rattle.or_model.specs.Routes.{fetch_route, cached_instruction}
 use Rattle.or_model.specs.Execute.{executed}
 use Rattle.or_model.specs.DataAccess.{State, Outcome}
 use Rattle.or_model.specs.Step.{stop_after, with_step_counted, retired, outcome, completed, is_misplaced, spr_number, step_off_bus, outcome_on_bus, executed_on_bus, completed_on_bus, step_on_bus, step_by_insn, step_by_word, due_interrupt, with_line, step_by_fetch, step_unheld, step_by_held, step_by_route, step_by_interrupt, step}
-use Rattle.or_model.specs.Counts.{SameSettings, SameCounts, IsWithinBudget, AddsStep}
+use Rattle.or_model.specs.Counts.{SameSettings, SameCounts, IsWithinBudget}
 use Rattle.or_model.proofs.Executes.{SameSettings-trans, SameCounts-trans, SameCounts-refl, exception_entry-counts, executed-counts}
 use Rattle.or_model.proofs.Accesses.{KeepsCounts, executed_on_bus-counts}
+
+-- one step was made
+pub record AddsStep (old new : Core) : Type 0 where
+  pub steps : new.steps ≡ old.steps + 1
+  pub settings : SameSettings old new
+  pub within : old.steps < old.budget → IsWithinBudget new
 
 -- a core that had steps left has some left after one step more, or has stopped
 stop_after-running : (stop : Option Stop) (steps budget : ℕ) → steps < budget → stop_after stop (steps + 1) budget ≡ None → steps + 1 < budget

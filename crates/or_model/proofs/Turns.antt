@@ -6,9 +6,17 @@ use Rattle.or_model.specs.Core.{Core}
 use Rattle.or_model.specs.World.{World}
 use Rattle.or_model.specs.Step.{is_private, private_step, empty_world}
 use Rattle.or_model.specs.Turn.{Begun, steps_alone, begun_within, turn_begun, sampled, turn_ended, turn}
-use Rattle.or_model.specs.Counts.{SameSettings, IsWithinBudget, AddsStep, AddsTurn}
+use Rattle.or_model.specs.Counts.{SameSettings, IsWithinBudget}
 use Rattle.or_model.proofs.Executes.{SameSettings-trans}
-use Rattle.or_model.proofs.Steps.{step-adds}
+use Rattle.or_model.proofs.Steps.{step-adds, AddsStep}
+use Rattle.or_words.specs.declared.limits.TheConstants.{MOST_PRIVATE_STEPS}
+
+-- a turn was made: at least one step and at most those of a private stretch, within the budget
+pub record AddsTurn (old new : Core) : Type 0 where
+  pub some : old.steps < new.steps
+  pub few : new.steps ≤ old.steps + MOST_PRIVATE_STEPS
+  pub settings : SameSettings old new
+  pub within : IsWithinBudget new
 
 -- where up to so many private steps leave a core
 pub record Begins (left : ℕ) (old : Core) (begun : Begun) : Type 0 where

@@ -1,8 +1,6 @@
 -- How far a core has come, and what never changes of it.
-use Rattle.std.specs.Prelude.{◌≡◌, ℕ, ◌+◌, ◌<◌, ◌≤◌, Bool, true, false, None, IsTrue}
-use Rattle.or_words.specs.declared.limits.TheConstants.{MOST_PRIVATE_STEPS}
+use Rattle.std.specs.Prelude.{◌≡◌, ◌<◌, ◌≤◌, None}
 use Rattle.or_model.specs.Core.{Core}
-use Rattle.or_model.specs.Turn.{Begun}
 
 -- it is the same core of the same board, with the same settings
 pub record SameSettings (old new : Core) : Type 0 where
@@ -20,16 +18,3 @@ pub record SameCounts (old new : Core) : Type 0 where
 pub record IsWithinBudget (core : Core) : Type 0 where
   pub steps : core.steps ≤ core.budget
   pub running : core.stop ≡ None → core.steps < core.budget
-
--- one step was made
-pub record AddsStep (old new : Core) : Type 0 where
-  pub steps : new.steps ≡ old.steps + 1
-  pub settings : SameSettings old new
-  pub within : old.steps < old.budget → IsWithinBudget new
-
--- a turn was made: at least one step and at most those of a private stretch, within the budget
-pub record AddsTurn (old new : Core) : Type 0 where
-  pub some : old.steps < new.steps
-  pub few : new.steps ≤ old.steps + MOST_PRIVATE_STEPS
-  pub settings : SameSettings old new
-  pub within : IsWithinBudget new

@@ -19,11 +19,22 @@ use Rattle.or_turn.specs.declared.view.Stage.TheVariants.{Idle, Waits, Holds, Jo
 use Rattle.or_turn.specs.declared.view.View.{View}
 use Rattle.or_turn.specs.Rule.{Begins, spent_view, SlotHolds, Witness, StageHolds, AreJoined, longer, SeatKnows, InTurn, IsHolder, Has, SlotIs, RuleHolds}
 use Rattle.or_words.specs.Settings.{Fits}
-use Rattle.or_turn.specs.Told.{SeatState, either_mark, joined_view, JoinConfirmed, confirmed, LastKnows}
+use Rattle.or_turn.specs.Told.{SeatState, either_mark, joined_view, JoinConfirmed, confirmed}
 use Rattle.or_turn.proofs.Counts.{count_begins, count_zero}
 use Rattle.or_turn.proofs.Seats.{moved, moved_here, moved_else, has_me, has_else, has_still, each_still, live, slot_still, same_at, one_owner}
 use Rattle.or_turn.proofs.Opening.{not_spent, idle_waits, idle_holds, stage_same}
 use Rattle.or_turn.proofs.Waiting.{only}
+
+-- the last view has every core: the schedule is whole, and the slot has its value
+pub record LastKnows (v : View) (transfer : Transfer) : Type 0 where
+  pub schedule : List ℕ
+  pub fits : Fits v.settings.config
+  pub begins : Begins v.seen schedule
+  pub defined : IsDefined v.settings schedule
+  pub holds : SlotHolds v.settings schedule transfer
+  pub told : (c : ℕ) → c < v.settings.config.cores → count c v.seen ≡ count c schedule
+  pub below : (c : ℕ) → 0 < count c v.cores → c < v.settings.config.cores
+  pub once : (c : ℕ) → count c v.cores ≤ 1
 
 -- of two beginnings of a list the shorter begins the longer
 pub begins_both : (xs ys all : List ℕ) → Begins xs all → Begins ys all → length xs ≤ length ys → Begins xs ys

@@ -19,12 +19,13 @@ use Rattle.or_turn.specs.declared.view.Transfer.{Transfer}
 use Rattle.or_turn.specs.declared.view.JoinedHalves.{JoinedHalves}
 use Rattle.or_turn.specs.declared.view.View.{View}
 use Rattle.or_turn.specs.Rule.{longer}
-use Rattle.or_turn.specs.Told.{JoinConfirmed, halves, both_view, LastKnows}
+use Rattle.or_turn.specs.Told.{JoinConfirmed, halves, both_view}
 use Rattle.or_turn.specs.SeatViews.{core_of}
 use Rattle.or_turn.specs.Ordered.{Numbered, Among}
 use Rattle.or_turn.proofs.Steps.{sound}
 use Rattle.or_turn.proofs.Removals.{map_row, same_row}
 use Rattle.or_turn.proofs.Counts.{below_counts, count_at, core_told}
+use Rattle.or_turn.proofs.Joining.{LastKnows}
 
 -- the cores of one unit are few
 pub joint_short : (st : Settings) (mine seen : List ℕ) (h : JoinedHalves) → JoinConfirmed st mine seen h → length mine ≤ 8

@@ -98,14 +98,3 @@ pub record JoinConfirmed (st : Settings) (cores seen : List ℕ) (h : JoinedHalv
 
 abbrev pub confirmed : TableStep → SeatState → ℕ → SeatState → Type 0
 confirmed step m n m' = (m'.1 ≡ m.1) × (m'.0 ≡ record m.0 { stage = Idle }) × ((h : JoinedHalves) → m.0.stage ≡ Joined h → JoinConfirmed m.0.settings m.0.cores m.0.seen h)
-
--- the last view has every core: the schedule is whole, and the slot has its value
-pub record LastKnows (v : View) (transfer : Transfer) : Type 0 where
-  pub schedule : List ℕ
-  pub fits : Fits v.settings.config
-  pub begins : Begins v.seen schedule
-  pub defined : IsDefined v.settings schedule
-  pub holds : SlotHolds v.settings schedule transfer
-  pub told : (c : ℕ) → c < v.settings.config.cores → count c v.seen ≡ count c schedule
-  pub below : (c : ℕ) → 0 < count c v.cores → c < v.settings.config.cores
-  pub once : (c : ℕ) → count c v.cores ≤ 1

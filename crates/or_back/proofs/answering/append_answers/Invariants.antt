@@ -1,8 +1,9 @@
 use Rattle.std.proofs.Common.{ℕ, List}
 use Rattle.or_model.specs.Turn.{Board}
 use Rattle.or_back.specs.Tells.{Tells}
-use Rattle.or_back.specs.Backward.{StandsBack, IsBackUpTo, state_at}
+use Rattle.or_back.specs.Backward.{StandsBack, state_at}
 use Rattle.or_back.proofs.answering.append_answers.Given as goal
+use Rattle.or_back.proofs.Sessions.{IsBackUpTo}
 
 abbrev pub invariant-loop-command : goal.invariant-loop-command
 invariant-loop-command l = record {

@@ -1,8 +1,8 @@
 use Rattle.std.proofs.Common.{◌≡◌}
 use Rattle.or_model.specs.Turn.{Board}
 use Rattle.or_debug.specs.Standing.{CanFollow, Stands, state_of}
-use Rattle.or_debug.specs.Answers.{IsUpTo}
 use Rattle.or_debug.proofs.answering.append_answers.Given as goal
+use Rattle.or_debug.proofs.Sessions.{IsUpTo}
 
 abbrev pub invariant-loop-command : goal.invariant-loop-command
 invariant-loop-command l = record {

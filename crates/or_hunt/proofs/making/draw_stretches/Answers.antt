@@ -1,8 +1,8 @@
 use Rattle.std.proofs.Common.{◌≡◌, ◌∙◌, sym, subst, false, true, rules, ℕ}
 use Rattle.or_replay.specs.Board.{all_stopped}
 use Rattle.or_hunt.specs.Drawn.{drawn_stretch}
-use Rattle.or_hunt.specs.Making.{IsStretched, IsUnderWay}
-use Rattle.or_hunt.proofs.Makes.{under_way_first, under_way_on, under_way_ends}
+use Rattle.or_hunt.specs.Making.{IsStretched}
+use Rattle.or_hunt.proofs.Makes.{under_way_first, under_way_on, under_way_ends, IsUnderWay}
 use Rattle.or_hunt.proofs.making.draw_stretches.Goals as goal
 
 pub loop-x-init : goal.loop-x-init

@@ -1,8 +1,8 @@
 use Rattle.std.proofs.Common.{◌≡◌, length}
 use Rattle.or_model.specs.Turn.{Board}
 use Rattle.or_replay.specs.Board.{IsBoard, steps_left}
-use Rattle.or_hunt.specs.Making.{IsUnderWay}
 use Rattle.or_hunt.proofs.making.draw_stretches.Given as goal
+use Rattle.or_hunt.proofs.Makes.{IsUnderWay}
 
 -- the stretches so far
 abbrev pub invariant-loop-x : goal.invariant-loop-x

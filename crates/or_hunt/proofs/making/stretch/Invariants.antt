@@ -1,8 +1,9 @@
 use Rattle.std.proofs.Common.{◌≡◌, ◌<◌, ◌⊎◌, length}
 use Rattle.or_model.specs.Turn.{Board}
 use Rattle.or_replay.specs.Board.{RunsAt, steps_left}
-use Rattle.or_hunt.specs.Making.{IsMade, IsStretching}
+use Rattle.or_hunt.specs.Making.{IsMade}
 use Rattle.or_hunt.proofs.making.stretch.Given as goal
+use Rattle.or_hunt.proofs.Makes.{IsStretching}
 
 -- the stretch so far; its first turn was made, or the core runs
 abbrev pub invariant-loop-left : goal.invariant-loop-left

@@ -1,7 +1,8 @@
 use Rattle.std.proofs.Common.{◌≡◌, ◌-◌, [], length}
 use Rattle.or_model.specs.Turn.{Board}
-use Rattle.or_debug.specs.Standing.{CanFollow, Reaches, Stands, IsGoing}
+use Rattle.or_debug.specs.Standing.{CanFollow, Reaches, Stands}
 use Rattle.or_debug.proofs.debugger.Debugger.go.Given as goal
+use Rattle.or_debug.proofs.Going.{IsGoing}
 
 -- nothing was hit so far
 abbrev pub invariant-loop-self : goal.invariant-loop-self

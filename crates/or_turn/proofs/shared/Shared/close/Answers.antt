@@ -11,9 +11,8 @@ use Rattle.or_turn.specs.declared.view.Transfer.{Transfer}
 use Rattle.or_turn.specs.declared.view.View.{View}
 use Rattle.or_turn.specs.Ordered.{Numbered, Among}
 use Rattle.or_turn.specs.Rule.{settings_of}
-use Rattle.or_turn.specs.Told.{LastKnows}
 use Rattle.or_turn.specs.SeatViews.{core_of, cores_shown}
-use Rattle.or_turn.proofs.Joining.{shuts}
+use Rattle.or_turn.proofs.Joining.{shuts, LastKnows}
 use Rattle.or_turn.proofs.Units.{shut_core, shut_length, shut_numbered, shut_row, shut_order}
 use Rattle.or_turn.proofs.shared.Shared.close.Goals.{After-take}
 use Rattle.or_turn.proofs.shared.Shared.close.Goals as goal
