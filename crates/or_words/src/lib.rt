@@ -5,11 +5,20 @@ ghost use Rattle.std.specs.Prelude.{◌≡◌, ℕ, ◌+◌, ◌-◌, ◌*◌, �
 ghost use Rattle.or_words.specs.Word.{signed, remainder, exceeds_unsigned, exceeds_signed, unsigned_sum, signed_sum, signed_quotient, quotient_overflows, unsigned_quotient, lowest_one, highest_one, IsLowestOne, IsHighestOne};
 ghost use Rattle.or_words.specs.Kind.{shifted, extended, compares, accumulated};
 
+pub mod cache_registers;
 pub mod limits;
+
+use std::alloc::AllocError;
 
 /// Memory ran out.
 #[derive(Clone, Copy, Debug, PartialEq, Eq)]
 pub struct NoMemory;
+
+impl From<AllocError> for NoMemory {
+    fn from(_error: AllocError) -> NoMemory {
+        NoMemory
+    }
+}
 
 /// How many bytes an access has: 1, 2 or 4.
 #[derive(Clone, Copy, Debug, PartialEq, Eq)]

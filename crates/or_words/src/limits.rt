@@ -26,5 +26,9 @@ pub const INPUT_LIMIT: usize = 1_048_576;
 pub const RECORDING_LIMIT: usize = 671_088_640;
 /// The most bytes of a debugger's script.
 pub const SCRIPT_LIMIT: usize = 1_048_576;
+/// The most breakpoints of a script, and the most watchpoints and store points.
+pub const MOST_POINTS: u32 = 16;
+/// The turns that a debugger keeps, so the most that `last` shows.
+pub const LAST_TURNS: usize = 64;
 /// The most bytes of a source for the assembler.
 pub const SOURCE_LIMIT: usize = 4_194_304;
