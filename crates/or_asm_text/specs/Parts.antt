@@ -77,6 +77,6 @@ with_operands (insn.Extend width signed d a) o = insn.Extend width signed o.d o.
 with_operands (insn.FindFirst d a) o = insn.FindFirst o.d o.a
 with_operands (insn.FindLast d a) o = insn.FindLast o.d o.a
 
--- without operands, which says which of the 89 instructions it is
+-- without operands, which says which instruction of the table it is
 unfoldable pub bare : Insn → Insn
 bare i = with_operands i (operands_with 0 0 0 (pos 0))

@@ -222,7 +222,7 @@ pub fn with_operands(insn: &Insn, operands: &Operands) -> Insn
     }
 }
 
-/// The instruction with operands of zero, which says which of the 89 instructions it is.
+/// The instruction with operands of zero, which says which instruction of the table it is.
 #[tactic(auto, using(crate::proofs::Parts::bare_fits), unfolding(crate::specs::Parts::bare))]
 pub fn bare(insn: &Insn) -> Insn
     ensures is { result ≡ bare insn.now }

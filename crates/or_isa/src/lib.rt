@@ -13,6 +13,7 @@ mod encoding;
 mod fields;
 mod program;
 
+use or_words::cache_registers::{DCBFR, DCBIR};
 use or_words::{CompareCode, MacKind, ShiftKind, Width};
 pub use program::{Piece, Program};
 use std::mem::size_of;
@@ -253,7 +254,7 @@ pub fn needs_bus(insn: &Insn, spr: u32) -> bool
         | Insn::LoadLinked { .. }
         | Insn::Store { .. }
         | Insn::StoreConditional { .. } => true,
-        Insn::MoveToSpecial { .. } => spr == 6146 || spr == 6147,
+        Insn::MoveToSpecial { .. } => spr == DCBFR || spr == DCBIR,
         _ => false,
     }
 }
