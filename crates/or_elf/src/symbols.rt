@@ -1,5 +1,5 @@
 // The functions and objects that a file's symbol table names.
-ghost use Rattle.std.specs.Prelude.{◌≡◌, ◌⊎◌, ◌≤◌, ◌<◌, ◌+◌, ◌*◌, ◌==◌, ◌++◌, Some, None, length, take, drop, MatchResult, IfOk, OnOk, OnErr, if◌then◌else◌, ◌^◌};
+ghost use Rattle.std.specs.Prelude.{◌≡◌, ◌⊎◌, ◌≤◌, ◌<◌, ◌+◌, ◌*◌, ◌==◌, ◌++◌, Some, None, length, take, drop, MatchResult, IfOk, OnOk, OnErr, vec_capacity, vec_len, if◌then◌else◌, ◌^◌};
 ghost use Rattle.or_elf.specs.Header.{word_at};
 ghost use Rattle.std.specs.List.{find, list_any};
 ghost use Rattle.or_words.specs.declared.limits.TheConstants.{IMAGE_LIMIT};
@@ -101,7 +101,9 @@ impl Symbols {
     /// Appends `<NAME+N>` for an address in a function, of several the one that starts last, and of these the first; nothing
     /// elsewhere. Bytes of the name are shown as by `name`.
     pub fn append_place(&self, pc: u32, out: &mut Vec<u8>) -> Result<(), AllocError>
-        ensures { OnOk result (out.new.items ≡ out.old.items ++ place_text self.now pc) }
+        ensures text { OnOk result (out.new.items ≡ out.old.items ++ place_text self.now pc) }
+        ensures full { OnErr result (vec_capacity out.old < vec_len out.old + length (place_text self.now pc)) }
+        ensures capacity { vec_capacity out.old ≤ vec_capacity out.new }
     {
         let Some(function) = self.function_around(pc) else {
             return Ok(());
@@ -114,7 +116,9 @@ impl Symbols {
     /// Appends ` in NAME+N` for the address of a word that an object has a byte of, with N 0 where the object starts inside the
     /// word; nothing elsewhere. Of several objects and of a name's bytes as by `append_place`.
     pub fn append_object(&self, word: u32, out: &mut Vec<u8>) -> Result<(), AllocError>
-        ensures { OnOk result (out.new.items ≡ out.old.items ++ object_text self.now word) }
+        ensures text { OnOk result (out.new.items ≡ out.old.items ++ object_text self.now word) }
+        ensures full { OnErr result (vec_capacity out.old < vec_len out.old + length (object_text self.now word)) }
+        ensures capacity { vec_capacity out.old ≤ vec_capacity out.new }
     {
         let Some(object) = self.object_of(word) else {
             return Ok(());
@@ -126,6 +130,8 @@ impl Symbols {
     /// Appends the name of the function with this index, with `?` for each byte that is no visible character of ASCII.
     pub fn name(&self, index: u32, out: &mut Vec<u8>) -> Result<(), NoMemory>
         ensures name { OnOk result (out.new.items ≡ out.old.items ++ symbol_name self.now index) }
+        ensures full { OnErr result (vec_capacity out.old < vec_len out.old + length (symbol_name self.now index)) }
+        ensures capacity { vec_capacity out.old ≤ vec_capacity out.new }
         ensures no_memory { OnErr result (out.new.items ≡ out.old.items) }
     {
         match with_index(&self.functions, index) {
@@ -389,7 +395,9 @@ fn append_offset(
     address: u32,
     out: &mut Vec<u8>,
 ) -> Result<(), AllocError>
-    ensures { OnOk result (out.new.items ≡ out.old.items ++ offset_text names.now symbol.now address) }
+    ensures text { OnOk result (out.new.items ≡ out.old.items ++ offset_text names.now symbol.now address) }
+    ensures full { OnErr result (vec_capacity out.old < vec_len out.old + length (offset_text names.now symbol.now address)) }
+    ensures capacity { vec_capacity out.old ≤ vec_capacity out.new }
 {
     append_shown(tail(names, symbol.name as usize), out)?;
     out.extend_from_slice(b"+")?;
@@ -398,6 +406,8 @@ fn append_offset(
 
 fn append_name(text: &[u8], out: &mut Vec<u8>) -> Result<(), NoMemory>
     ensures name { OnOk result (out.new.items ≡ out.old.items ++ name_text text.now) }
+    ensures full { OnErr result (vec_capacity out.old < vec_len out.old + length (name_text text.now)) }
+    ensures capacity { vec_capacity out.old ≤ vec_capacity out.new }
     ensures no_memory { OnErr result (out.new.items ≡ out.old.items) }
 {
     let before = out.len();
@@ -413,6 +423,8 @@ fn append_name(text: &[u8], out: &mut Vec<u8>) -> Result<(), NoMemory>
 #[tactic(auto, unfolding(crate::specs::Symbols::name_text))]
 fn append_shown(text: &[u8], out: &mut Vec<u8>) -> Result<(), AllocError>
     ensures name { OnOk result (out.new.items ≡ out.old.items ++ name_text text.now) }
+    ensures full { OnErr result (vec_capacity out.old < vec_len out.old + length (name_text text.now)) }
+    ensures capacity { vec_capacity out.old ≤ vec_capacity out.new }
     ensures kept { take (length out.old.items) out.new.items ≡ out.old.items }
 {
     let mut rest = text;
