@@ -1,5 +1,5 @@
 -- The lines that are kept are those of the report.
-use Rattle.std.proofs.Common.{◌≡◌, ℕ, zero, suc, ◌≤◌, List, [], ◌∷◌, ◌++◌, length, map, slice_get, Option, Some, None, cond, true, false, Bool, unwrap_or, nat_cmp, Less, option_to_list, ◌&&◌, if◌then◌else◌, refl, sym, ap, ◌∙◌, subst, inl, inr, arith, append-nil, append_assoc}
+use Rattle.std.proofs.Common.{◌≡◌, ℕ, zero, suc, ◌≤◌, List, [], ◌∷◌, ◌+◌, ◌++◌, length, length-append, map, slice_get, Option, Some, None, cond, true, false, Bool, unwrap_or, nat_cmp, Less, option_to_list, ◌&&◌, if◌then◌else◌, refl, sym, ap, ◌∙◌, subst, inl, inr, arith, append-nil, append_assoc}
 use Rattle.std.specs.BTreeMap.{BTreeMap, is_at, get, values, IsOrdered, btree_map_len}
 use Rattle.std.specs.Map.{lookup, keys_of, values_of}
 use Rattle.std.specs.List.{AllByRecursion}
@@ -48,6 +48,17 @@ module _ (locks : Bool) where
   text_next symbols out new total rest ws line n f before =
       ap (λ x. x ++ lines_text symbols (found_lines locks ws)) n ∙ append_assoc out (line_text symbols line) (lines_text symbols (found_lines locks ws))
       ∙ ap (λ x. out ++ x) (sym (ap (lines_text symbols) f ∙ lines_text_some symbols line (found_lines locks ws))) ∙ before
+
+  -- the next line ends within the text
+  pub line_fits : (symbols : Option SymbolTable) (out total : List ℕ) (rest ws : List Word) (line : Line) → found_lines locks rest ≡ line ∷ found_lines locks ws
+      → out ++ lines_text symbols (found_lines locks rest) ≡ total → length out + length (line_text symbols line) ≤ length total
+  line_fits symbols out total rest ws line f before =
+      let later = lines_text symbols (found_lines locks ws) in
+      let long = ap length before in
+      let parts = length-append out (lines_text symbols (found_lines locks rest)) in
+      let next : length (lines_text symbols (found_lines locks rest)) ≡ length (line_text symbols line ++ later) =
+      ap (λ ls. length (lines_text symbols ls)) f ∙ ap length (lines_text_some symbols line (found_lines locks ws)) in
+      omega (arith, long, parts, next, length-append (line_text symbols line) later)
 
   pub text_end : (symbols : Option SymbolTable) (out total : List ℕ) (rest : List Word) → rest ≡ [] → out ++ lines_text symbols (found_lines locks rest) ≡ total → out ≡ total
   text_end symbols out total rest e before =

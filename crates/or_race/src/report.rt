@@ -1,5 +1,5 @@
 //! The report.
-ghost use Rattle.std.specs.Prelude.{◌≡◌, Bool, ℕ, ◌++◌, List, length, OnOk, OnErr, IfOk};
+ghost use Rattle.std.specs.Prelude.{◌≡◌, Bool, ℕ, ◌≤◌, ◌<◌, ◌+◌, ◌++◌, List, length, OnOk, OnErr, IfOk, vec_capacity, vec_len};
 ghost use Rattle.std.specs.BTreeMap.{values};
 ghost use Rattle.or_race.specs.Event.{Event};
 ghost use Rattle.or_race.specs.Lines.{reported_line, found_lines};
@@ -25,7 +25,9 @@ fn letter_of(core: u32) -> u8
 
 // Appends the turn and the core of an access.
 fn append_access(turn: u64, core: u32, out: &mut Vec<u8>) -> Result<(), AllocError>
-    ensures { OnOk result (out.new.items ≡ out.old.items ++ access_text turn core) }
+    ensures text { OnOk result (out.new.items ≡ out.old.items ++ access_text turn core) }
+    ensures full { OnErr result (vec_capacity out.old < vec_len out.old + length (access_text turn core)) }
+    ensures capacity { vec_capacity out.old ≤ vec_capacity out.new }
 {
     out.extend_from_slice(b" ")?;
     append_decimal(turn, out)?;
@@ -34,7 +36,9 @@ fn append_access(turn: u64, core: u32, out: &mut Vec<u8>) -> Result<(), AllocErr
 
 // Appends a pc, and the function that it lies in.
 fn append_pc(symbols: &Symbols, pc: u32, out: &mut Vec<u8>) -> Result<(), AllocError>
-    ensures { OnOk result (out.new.items ≡ out.old.items ++ pc_text symbols.now pc) }
+    ensures text { OnOk result (out.new.items ≡ out.old.items ++ pc_text symbols.now pc) }
+    ensures full { OnErr result (vec_capacity out.old < vec_len out.old + length (pc_text symbols.now pc)) }
+    ensures capacity { vec_capacity out.old ≤ vec_capacity out.new }
 {
     append_word(pc, out)?;
     symbols.append_place(pc, out)
@@ -47,7 +51,9 @@ fn append_places(
     line: &Line,
     out: &mut Vec<u8>,
 ) -> Result<(), AllocError>
-    ensures { OnOk result (out.new.items ≡ out.old.items ++ places_text symbols.now line.now) }
+    ensures text { OnOk result (out.new.items ≡ out.old.items ++ places_text symbols.now line.now) }
+    ensures full { OnErr result (vec_capacity out.old < vec_len out.old + length (places_text symbols.now line.now)) }
+    ensures capacity { vec_capacity out.old ≤ vec_capacity out.new }
 {
     let Some(symbols) = symbols else {
         return Ok(());
@@ -62,7 +68,9 @@ fn append_places(
 // Appends a line.
 #[tactic(auto, unfolding(crate::specs::Text::line_text))]
 fn append_line(symbols: &Option<Symbols>, line: &Line, out: &mut Vec<u8>) -> Result<(), AllocError>
-    ensures { OnOk result (out.new.items ≡ out.old.items ++ line_text symbols.now line.now) }
+    ensures text { OnOk result (out.new.items ≡ out.old.items ++ line_text symbols.now line.now) }
+    ensures full { OnErr result (vec_capacity out.old < vec_len out.old + length (line_text symbols.now line.now)) }
+    ensures capacity { vec_capacity out.old ≤ vec_capacity out.new }
 {
     out.extend_from_slice(b"race ")?;
     append_word(line.word, out)?;
@@ -92,6 +100,8 @@ fn append_lines(
 ) -> Result<u64, AllocError>
     ensures count { IfOk result (λ count. count ≡ length (found_lines locks (values words.now))) }
     ensures text { OnOk result (out.new.items ≡ out.old.items ++ lines_text symbols.now (found_lines locks (values words.now))) }
+    ensures full { OnErr result (vec_capacity out.old < vec_len out.old + length (lines_text symbols.now (found_lines locks (values words.now)))) }
+    ensures capacity { vec_capacity out.old ≤ vec_capacity out.new }
 {
     let _most = words.len();
     let mut count: u64 = 0;
@@ -106,7 +116,9 @@ fn append_lines(
 
 // Appends the first line.
 fn append_head(locks: bool, out: &mut Vec<u8>) -> Result<(), AllocError>
-    ensures { OnOk result (out.new.items ≡ out.old.items ++ head_text locks) }
+    ensures text { OnOk result (out.new.items ≡ out.old.items ++ head_text locks) }
+    ensures full { OnErr result (vec_capacity out.old < vec_len out.old + length (head_text locks)) }
+    ensures capacity { vec_capacity out.old ≤ vec_capacity out.new }
 {
     if locks {
         out.extend_from_slice(b"orrace 1 locks\n")
@@ -122,7 +134,9 @@ fn append_report(
     words: &BTreeMap<u32, Word>,
     out: &mut Vec<u8>,
 ) -> Result<(), AllocError>
-    ensures { OnOk result (out.new.items ≡ out.old.items ++ race_report_text locks symbols.now (found_lines locks (values words.now))) }
+    ensures text { OnOk result (out.new.items ≡ out.old.items ++ race_report_text locks symbols.now (found_lines locks (values words.now))) }
+    ensures full { OnErr result (vec_capacity out.old < vec_len out.old + length (race_report_text locks symbols.now (found_lines locks (values words.now)))) }
+    ensures capacity { vec_capacity out.old ≤ vec_capacity out.new }
 {
     append_head(locks, out)?;
     let count = append_lines(locks, symbols, words, out)?;
