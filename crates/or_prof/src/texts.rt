@@ -1,5 +1,5 @@
 // The text of a core.
-ghost use Rattle.std.specs.Prelude.{◌≡◌, ◌++◌, OnOk, length};
+ghost use Rattle.std.specs.Prelude.{◌≡◌, ◌≤◌, ◌<◌, ◌+◌, ◌++◌, OnOk, OnErr, length, vec_capacity, vec_len};
 ghost use Rattle.std.specs.List.{flat_map};
 ghost use Rattle.or_prof.specs.Tally.{AreBelow, count_in};
 ghost use Rattle.or_prof.specs.Text.{line_text, outside_text, core_line, IsCoreText, Appends};
@@ -11,7 +11,9 @@ use or_text::append_decimal;
 use std::alloc::{AllocError, Global};
 
 fn append_line(symbols: &Symbols, line: Line, out: &mut Vec<u8>) -> Result<(), AllocError>
-    ensures { OnOk result (out.new.items ≡ out.old.items ++ line_text symbols.now line) }
+    ensures text { OnOk result (out.new.items ≡ out.old.items ++ line_text symbols.now line) }
+    ensures full { OnErr result (vec_capacity out.old < vec_len out.old + length (line_text symbols.now line)) }
+    ensures capacity { vec_capacity out.old ≤ vec_capacity out.new }
 {
     append_decimal(u64::from(line.count), out)?;
     out.extend_from_slice(b" ")?;
@@ -22,7 +24,9 @@ fn append_line(symbols: &Symbols, line: Line, out: &mut Vec<u8>) -> Result<(), A
 }
 
 fn append_lines(symbols: &Symbols, lines: &[Line], out: &mut Vec<u8>) -> Result<(), AllocError>
-    ensures { OnOk result (out.new.items ≡ out.old.items ++ flat_map (line_text symbols.now) lines.now) }
+    ensures text { OnOk result (out.new.items ≡ out.old.items ++ flat_map (line_text symbols.now) lines.now) }
+    ensures full { OnErr result (vec_capacity out.old < vec_len out.old + length (flat_map (line_text symbols.now) lines.now)) }
+    ensures capacity { vec_capacity out.old ≤ vec_capacity out.new }
 {
     for line in lines {
         append_line(symbols, *line, out)?;
@@ -31,7 +35,9 @@ fn append_lines(symbols: &Symbols, lines: &[Line], out: &mut Vec<u8>) -> Result<
 }
 
 fn append_outside(count: u32, out: &mut Vec<u8>) -> Result<(), AllocError>
-    ensures { OnOk result (out.new.items ≡ out.old.items ++ outside_text count) }
+    ensures text { OnOk result (out.new.items ≡ out.old.items ++ outside_text count) }
+    ensures full { OnErr result (vec_capacity out.old < vec_len out.old + length (outside_text count)) }
+    ensures capacity { vec_capacity out.old ≤ vec_capacity out.new }
 {
     if count == 0 {
         return Ok(());
@@ -42,7 +48,9 @@ fn append_outside(count: u32, out: &mut Vec<u8>) -> Result<(), AllocError>
 
 #[tactic(auto, unfolding(crate::specs::Text::core_line))]
 fn append_head(core: usize, steps: u32, out: &mut Vec<u8>) -> Result<(), AllocError>
-    ensures { OnOk result (out.new.items ≡ out.old.items ++ core_line core steps) }
+    ensures text { OnOk result (out.new.items ≡ out.old.items ++ core_line core steps) }
+    ensures full { OnErr result (vec_capacity out.old < vec_len out.old + length (core_line core steps)) }
+    ensures capacity { vec_capacity out.old ≤ vec_capacity out.new }
 {
     out.extend_from_slice(b"core ")?;
     append_decimal(core as u64, out)?;

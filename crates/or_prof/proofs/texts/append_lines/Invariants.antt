@@ -1,7 +1,10 @@
-use Rattle.std.proofs.Common.{◌≡◌, ◌++◌, take}
+use Rattle.std.proofs.Common.{◌≡◌, ◌≤◌, ◌++◌, take, vec_capacity}
 use Rattle.std.specs.List.{flat_map}
 use Rattle.or_prof.specs.Text.{line_text}
 use Rattle.or_prof.proofs.texts.append_lines.Given as goal
 
 abbrev pub invariant-loop-line : goal.invariant-loop-line
-invariant-loop-line l = l.out.items ≡ l.initial.out.items ++ flat_map (line_text l.symbols) (take l.line-index l.lines)
+invariant-loop-line l = record {
+  text : l.out.items ≡ l.initial.out.items ++ flat_map (line_text l.symbols) (take l.line-index l.lines);
+  capacity : vec_capacity l.initial.out ≤ vec_capacity l.out;
+}
