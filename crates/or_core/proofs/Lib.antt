@@ -7,5 +7,6 @@ pub mod Nexts
 pub mod Pages
 pub mod Progress
 pub mod Quiets
+pub mod TracedSteps
 pub mod Traces
 mod Vectors

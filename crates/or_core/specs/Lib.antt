@@ -3,3 +3,4 @@ pub mod PrivateStep
 pub mod Access
 pub mod Next
 pub mod Quiet
+pub mod TracedSteps

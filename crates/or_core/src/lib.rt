@@ -11,8 +11,10 @@ mod results;
 mod special;
 mod state;
 mod step;
+mod traced_steps;
 mod turn;
 
 pub use or_model::Stop;
 pub use private::Private;
 pub use state::Core;
+pub use traced_steps::TracedStep;

@@ -33,7 +33,7 @@ impl Core {
 
     // What the next step is.
     #[inline(always)]
-    #[tactic(auto, unfolding(or_model::specs::Step::is_private, or_model::specs::Step::step, crate::specs::Access::step_access))]
+    #[tactic(auto, unfolding(or_model::specs::Step::is_private, or_model::specs::Step::step, crate::specs::Access::step_access, crate::specs::TracedSteps::step_exception))]
     pub(crate) fn next(&self) -> Next
         ensures { IsNext self.now result }
     {

@@ -66,7 +66,7 @@ impl Core {
                 return Private::NeedsBus;
             }
         }
-        self.step_off_bus(insn);
+        let _ = self.step_off_bus(insn);
         Private::Stepped
     }
 }

@@ -1,17 +1,18 @@
 //! One step of a core.
 
-ghost use Rattle.std.specs.Prelude.{◌≡◌, ◌+◌, ◌<◌, ◌%◌, MatchResult, OnErr, Ok, Err, Some, None, option_and_then};
+ghost use Rattle.std.specs.Prelude.{◌≡◌, ◌+◌, ◌<◌, ◌%◌, MatchResult, OnErr, Ok, Err, Some, None, true, false, option_and_then};
 ghost use Rattle.std.specs.Option.{ForSome, option_or};
 ghost use Rattle.or_isa.specs.Fits.{Fits};
 ghost use Rattle.or_parts.specs.Bits.{plus, immediate};
 ghost use Rattle.or_model.specs.Core.{exception_entry, register};
 ghost use Rattle.or_model.specs.World.{World};
 ghost use Rattle.or_model.specs.Routes.{fetch_route};
-ghost use Rattle.or_model.specs.Step.{with_step_counted, is_misplaced, spr_number, outcome, outcome_on_bus, step_off_bus, step_on_bus, step_by_insn, step_by_word, step_unheld, step};
+ghost use Rattle.or_model.specs.Step.{with_step_counted, is_misplaced, spr_number, outcome, outcome_on_bus, step_off_bus, step_on_bus, step_by_insn, step_by_word, step_unheld, step, wants_bus, is_private, private_step};
 ghost use Rattle.or_bus.specs.Represents.{Represents};
 ghost use Rattle.or_model.specs.Counts.{SameCounts, SameSettings};
 ghost use Rattle.or_core.specs.Follows.{IsState, IsOutcome, IsAlignedBy, KeepsBus};
 ghost use Rattle.or_core.specs.Access.{memory_operand, access_by, access_of_insn, access_of_word, word_fetched, step_access};
+ghost use Rattle.or_core.specs.TracedSteps.{exception_of, exception_by_insn, exception_by_word, exception_unheld, step_exception};
 ghost use Rattle.or_core.specs.Quiet.{IsAhead};
 
 use crate::data_access::UNCACHED;
@@ -107,19 +108,26 @@ impl Core {
         }
     }
 
-    // One step by an instruction that asks nothing of the bus, or by a word that is no instruction.
+    // One step by an instruction that asks nothing of the bus, or by a word that is no instruction; the exception that it enters.
     #[inline(always)]
     #[tactic(auto, unfolding(or_model::specs::Step::step_off_bus))]
-    pub(crate) fn step_off_bus(&mut self, insn: Option<Insn>)
+    pub(crate) fn step_off_bus(&mut self, insn: Option<Insn>) -> Option<Cause>
         requires fits { ForSome insn Fits }
         requires room { self.old.steps < self.old.budget }
         ensures state { self.new ≡ step_off_bus self.old insn }
+        ensures exception { result ≡ exception_of (outcome self.old insn) }
         ensures settings { SameSettings self.old self.new }
         ensures steps { self.new.steps ≡ self.old.steps + 1 }
     {
         match self.attempt(insn) {
-            Ok(()) => self.retire(),
-            Err(cause) => self.enter_step(cause),
+            Ok(()) => {
+                self.retire();
+                None
+            }
+            Err(cause) => {
+                self.enter_step(cause);
+                Some(cause)
+            }
         }
     }
 
@@ -215,31 +223,40 @@ impl Core {
     // One step by an instruction that asks the bus.
     #[inline(always)]
     #[tactic(auto, unfolding(or_model::specs::Step::step_on_bus))]
-    fn step_on_bus(&mut self, bus: &mut Bus, insn: Insn)
+    fn step_on_bus(&mut self, bus: &mut Bus, insn: Insn) -> Option<Cause>
         requires fits { Fits insn }
         requires room { self.old.steps < self.old.budget }
         requires known { self.old.number < bus.old.cores }
         requires spare { 0 < bus.old.spare }
         ensures state { (world : World) → Represents bus.old world → IsState (step_on_bus self.old world insn) self.new bus.new }
+        ensures exception { (world : World) → Represents bus.old world → result ≡ exception_of (outcome_on_bus self.old world insn) }
         ensures settings { SameSettings self.old self.new }
         ensures steps { self.new.steps ≡ self.old.steps + 1 }
         ensures access { (world : World) → Represents bus.old world → bus.new.last ≡ option_or (option_and_then (access_by self.old world) (memory_operand insn)) bus.old.last }
         ensures bus { KeepsBus bus.old bus.new }
     {
         match self.attempt_in_place(bus, insn) {
-            Ok(()) => self.retire(),
-            Err(cause) => self.enter_step(cause),
+            Ok(()) => {
+                self.retire();
+                None
+            }
+            Err(cause) => {
+                self.enter_step(cause);
+                Some(cause)
+            }
         }
     }
 
     // One step by an instruction, or by a word that is none.
     #[inline(always)]
-    fn step_by_insn(&mut self, bus: &mut Bus, insn: Option<Insn>)
+    fn step_by_insn(&mut self, bus: &mut Bus, insn: Option<Insn>) -> Option<Cause>
         requires fits { ForSome insn Fits }
         requires room { self.old.steps < self.old.budget }
         requires known { self.old.number < bus.old.cores }
         requires spare { 0 < bus.old.spare }
         ensures state { (world : World) → Represents bus.old world → IsState (step_by_insn self.old world insn) self.new bus.new }
+        ensures exception { (world : World) → Represents bus.old world → result ≡ exception_by_insn self.old world insn }
+        ensures alone { wants_bus self.old insn ≡ false → ((world : World) → step_by_insn self.old world insn ≡ record { core = self.new; world = world }) × (bus.new ≡ bus.old) }
         ensures settings { SameSettings self.old self.new }
         ensures steps { self.new.steps ≡ self.old.steps + 1 }
         ensures access { (world : World) → Represents bus.old world → bus.new.last ≡ option_or (access_of_insn self.old world insn) bus.old.last }
@@ -258,28 +275,30 @@ impl Core {
     }
 
     // One step by a word that was fetched.
-    #[tactic(auto, unfolding(or_model::specs::Step::step_by_word, crate::specs::Access::access_of_word))]
-    fn step_by_word(&mut self, bus: &mut Bus, word: u32)
+    #[tactic(auto, unfolding(or_model::specs::Step::step_by_word, crate::specs::Access::access_of_word, crate::specs::TracedSteps::exception_by_word))]
+    fn step_by_word(&mut self, bus: &mut Bus, word: u32) -> Option<Cause>
         requires room { self.old.steps < self.old.budget }
         requires known { self.old.number < bus.old.cores }
         requires spare { 0 < bus.old.spare }
         ensures state { (world : World) → Represents bus.old world → IsState (step_by_word self.old world word) self.new bus.new }
+        ensures exception { (world : World) → Represents bus.old world → result ≡ exception_by_word self.old world word }
         ensures settings { SameSettings self.old self.new }
         ensures steps { self.new.steps ≡ self.old.steps + 1 }
         ensures access { (world : World) → Represents bus.old world → bus.new.last ≡ option_or (access_of_word self.old world word) bus.old.last }
         ensures bus { KeepsBus bus.old bus.new }
     {
-        self.step_by_insn(bus, decode(word));
+        self.step_by_insn(bus, decode(word))
     }
 
     // One step by a word that no held line has.
-    #[tactic(auto, unfolding(or_model::specs::Step::step_unheld))]
-    fn step_unheld(&mut self, bus: &mut Bus, pa: u32, cached: bool)
+    #[tactic(auto, unfolding(or_model::specs::Step::step_unheld, crate::specs::TracedSteps::exception_unheld))]
+    fn step_unheld(&mut self, bus: &mut Bus, pa: u32, cached: bool) -> Option<Cause>
         requires aligned { pa % 4 ≡ 0 }
         requires room { self.old.steps < self.old.budget }
         requires known { self.old.number < bus.old.cores }
         requires spare { 0 < bus.old.spare }
         ensures state { (world : World) → Represents bus.old world → IsState (step_unheld self.old world pa cached) self.new bus.new }
+        ensures exception { (world : World) → Represents bus.old world → result ≡ exception_unheld self.old world pa cached }
         ensures settings { SameSettings self.old self.new }
         ensures steps { self.new.steps ≡ self.old.steps + 1 }
         ensures access { (world : World) → Represents bus.old world → bus.new.last ≡ option_or (option_and_then (access_of_word self.old world) (word_fetched world pa cached)) bus.old.last }
@@ -290,7 +309,11 @@ impl Core {
                 self.hold_line(pa, &fetched.line);
                 self.step_by_word(bus, fetched.word)
             }
-            Err(_) => self.enter_step(Cause::BusError(self.pc())),
+            Err(_) => {
+                let cause = Cause::BusError(self.pc());
+                self.enter_step(cause);
+                Some(cause)
+            }
         }
     }
 
@@ -309,15 +332,18 @@ impl Core {
         ensures bus { KeepsBus bus.old bus.new }
     {
         let _ = &self.steps;
-        self.step_on_bus(bus, insn);
+        let _ = self.step_on_bus(bus, insn);
     }
 
-    /// Makes one step: a retired instruction, or an exception entry. The steps rise by one.
-    pub fn step(&mut self, bus: &mut Bus)
+    /// Makes one step: a retired instruction, or the entry of the exception that it answers. The steps rise by one.
+    #[tactic(auto, unfolding(or_model::specs::Step::private_step))]
+    pub fn step(&mut self, bus: &mut Bus) -> Option<Cause>
         requires running { self.old.stop ≡ None }
         requires known { self.old.number < bus.old.cores }
         requires spare { 0 < bus.old.spare }
         ensures state { (world : World) → Represents bus.old world → IsState (step self.old world) self.new bus.new }
+        ensures exception { (world : World) → Represents bus.old world → result ≡ step_exception self.old world }
+        ensures alone { is_private self.old ≡ true → (self.new ≡ private_step self.old) × (bus.new ≡ bus.old) }
         ensures settings { SameSettings self.old self.new }
         ensures steps { self.new.steps ≡ self.old.steps + 1 }
         ensures access { (world : World) → Represents bus.old world → bus.new.last ≡ option_or (step_access self.old world) bus.old.last }
@@ -325,7 +351,10 @@ impl Core {
     {
         let _ = &self.steps;
         match self.next() {
-            Next::Enters(cause) => self.enter_step(cause),
+            Next::Enters(cause) => {
+                self.enter_step(cause);
+                Some(cause)
+            }
             Next::Held(insn) => self.step_by_insn(bus, insn),
             Next::Fetched(pa, cached) => self.step_unheld(bus, pa, cached),
         }

@@ -92,7 +92,7 @@ impl Core {
         if begun.asks {
             self.step_asking(bus, begun.insn);
         } else if begun.follows {
-            self.step(bus);
+            let _ = self.step(bus);
         }
     }
 

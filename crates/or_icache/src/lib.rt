@@ -8,7 +8,7 @@ ghost use Rattle.std.specs.Option.{ForSome};
 ghost use Rattle.or_isa.specs.Fits.{Fits};
 ghost use Rattle.or_words.specs.declared.Width.TheVariants.{Word};
 ghost use Rattle.or_parts.specs.Memory.{value_at};
-ghost use Rattle.or_parts.specs.Lines.{index_of, line_of, no_lines, is_line_at, line_filled, line_dropped};
+ghost use Rattle.or_parts.specs.Lines.{index_of, line_of, no_lines, is_line_at, word_of_line, held_word, line_filled, line_dropped};
 ghost use Rattle.or_icache.specs.Decoded.{IsDecoded, held_insn};
 
 use or_isa::{Insn, decode};
@@ -84,6 +84,19 @@ fn word_at(bytes: &[u8], at: usize) -> u32
     ((first * 256 + second) * 256 + third) * 256 + fourth
 }
 
+// The word at an address, where this is its line.
+fn word_of_line(held: &Option<Line>, pa: u32) -> Option<u32>
+    requires { pa % 4 ≡ 0 }
+    ensures { result ≡ word_of_line held.now pa }
+{
+    match held {
+        Some(line) if line_of(pa) == line.address => {
+            Some(word_at(&line.bytes, (pa % LINE) as usize))
+        }
+        _ => None,
+    }
+}
+
 // The instruction of each word of a line stands at its index.
 fn decode_line(insns: &mut [Option<Insn>; 1024], index: usize, bytes: &[u8; 32])
     requires { index < 128 }
@@ -133,6 +146,15 @@ impl ICache {
             },
             None => None,
         }
+    }
+
+    /// The word at a physical address, None exactly where its line is not held.
+    #[tactic(auto, unfolding(or_parts::specs::Lines::held_word))]
+    pub fn word(&self, pa: u32) -> Option<u32>
+        requires { pa % 4 ≡ 0 }
+        ensures { result ≡ held_word self.now pa }
+    {
+        word_of_line(&self.lines[index_of(pa)], pa)
     }
 
     /// Holds these bytes as the line of a physical address, over whatever its index held.
