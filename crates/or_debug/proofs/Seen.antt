@@ -1,5 +1,5 @@
 -- Watchpoints and store points that have seen RAM.
-use Rattle.std.proofs.Common.{◌≡◌, ◌∙◌, refl, sym, ap, subst, ℕ, zero, suc, ◌+◌, ◌<◌, List, [], ◌∷◌, ◌++◌, length, take, drop, map, get_or, add-one, append_assoc, None, arith}
+use Rattle.std.proofs.Common.{◌≡◌, ◌∙◌, refl, sym, ap, subst, ℕ, zero, suc, ◌+◌, ◌<◌, List, [], ◌∷◌, ◌++◌, length, length-append, take, drop, map, get_or, add-one, append_assoc, None, arith}
 use Rattle.std.proofs.Math.ListN.{set}
 use Rattle.std.proofs.lemmas.List.Folds.{flat_map-map}
 use Rattle.std.proofs.lemmas.List.{map-append}
@@ -94,6 +94,18 @@ hits_written made before later text one two three stops is breaks watches stores
     stores ∙ ap (λ l. l ++ flat_map (seen_store made later) stops.stores.items) watches
     ∙ ap (λ l. (one ++ flat_map (seen_line made.turn later) stops.watches.items) ++ l) same_stores
     ∙ ap (λ l. (one ++ l) ++ s) same_watches ∙ ap (λ l. (l ++ w) ++ s) breaks ∙ append_assoc (text ++ b) w s ∙ append_assoc text b (w ++ s)
+
+-- those lines, kind by kind
+pub hits_long : (made : MadeTurn) (before later : List ℕ) (stops : Stops) → HasSeen before stops
+    → length (hits_of made before later (points_of stops)) ≡ length (flat_map (break_line made) stops.breaks.items)
+    + (length (flat_map (seen_line made.turn later) stops.watches.items) + length (flat_map (seen_store made later) stops.stores.items))
+hits_long made before later stops is =
+    let b = flat_map (break_line made) stops.breaks.items in
+    let w = flat_map (seen_line made.turn later) stops.watches.items in
+    let s = flat_map (seen_store made later) stops.stores.items in
+    let whole : (b ++ w) ++ s ≡ hits_of made before later (points_of stops) = hits_written made before later [] b (b ++ w) ((b ++ w) ++ s) stops is refl refl refl in
+    let long = ap length whole in
+    omega (arith, long, length-append (b ++ w) s, length-append b w)
 
 -- the board stays what it is while it is looked at
 pub still_after : (start : Board) (turns : List ℕ) (n : ℕ) (cores new_cores : List Core) (bus new_bus : BusState) → IsAfter start turns n cores bus

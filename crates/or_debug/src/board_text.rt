@@ -1,5 +1,5 @@
 //! What the debugger shows of a board.
-ghost use Rattle.std.specs.Prelude.{◌≡◌, ◌<◌, ◌++◌, OnOk, OnErr, length};
+ghost use Rattle.std.specs.Prelude.{◌≡◌, ◌≤◌, ◌<◌, ◌+◌, ◌++◌, OnOk, OnErr, length, vec_capacity, vec_len};
 ghost use Rattle.or_model.specs.Turn.{Board as BoardModel};
 ghost use Rattle.or_replay.specs.Board.{IsBoard};
 ghost use Rattle.or_bus.specs.Answers.{word_shown};
@@ -30,7 +30,9 @@ pub fn append_registers(
 
 // A word of RAM behind its address.
 fn append_shown(address: u32, word: Option<u32>, text: &mut Vec<u8>) -> Result<(), AllocError>
-    ensures { OnOk result (text.new.items ≡ text.old.items ++ word_line address word) }
+    ensures text { OnOk result (text.new.items ≡ text.old.items ++ word_line address word) }
+    ensures full { OnErr result (vec_capacity text.old < vec_len text.old + length (word_line address word)) }
+    ensures capacity { vec_capacity text.old ≤ vec_capacity text.new }
 {
     match word {
         None => Ok(()),
@@ -51,6 +53,8 @@ pub fn append_memory(
     text: &mut Vec<u8>,
 ) -> Result<(), AllocError>
     ensures text { OnOk result ((now : BoardModel) → IsBoard board.old.cores board.old.bus now → text.new.items ≡ text.old.items ++ memory_text now.world.ram address words) }
+    ensures full { OnErr result ((now : BoardModel) → IsBoard board.old.cores board.old.bus now → vec_capacity text.old < vec_len text.old + length (memory_text now.world.ram address words)) }
+    ensures capacity { vec_capacity text.old ≤ vec_capacity text.new }
     ensures board { (now : BoardModel) → IsBoard board.old.cores board.old.bus now → IsBoard board.new.cores board.new.bus now }
     ensures config { board.new.config ≡ board.old.config }
 {
@@ -79,7 +83,9 @@ fn line_address(board: &Board, core: u32, index: u32) -> Option<u32>
 
 // The index of a valid line, and its address.
 fn append_index(index: u32, address: Option<u32>, text: &mut Vec<u8>) -> Result<(), AllocError>
-    ensures { OnOk result (text.new.items ≡ text.old.items ++ index_line index address) }
+    ensures text { OnOk result (text.new.items ≡ text.old.items ++ index_line index address) }
+    ensures full { OnErr result (vec_capacity text.old < vec_len text.old + length (index_line index address)) }
+    ensures capacity { vec_capacity text.old ≤ vec_capacity text.new }
 {
     match address {
         None => Ok(()),
@@ -95,7 +101,9 @@ fn append_index(index: u32, address: Option<u32>, text: &mut Vec<u8>) -> Result<
 #[tactic(auto, using(crate::proofs::Texts::index_added))]
 fn append_indexes(board: &Board, core: u32, text: &mut Vec<u8>) -> Result<(), AllocError>
     requires core { core < length board.now.cores }
-    ensures { OnOk result ((now : BoardModel) → IsBoard board.now.cores board.now.bus now → text.new.items ≡ text.old.items ++ index_lines now.world.accesses core 128) }
+    ensures text { OnOk result ((now : BoardModel) → IsBoard board.now.cores board.now.bus now → text.new.items ≡ text.old.items ++ index_lines now.world.accesses core 128) }
+    ensures full { OnErr result ((now : BoardModel) → IsBoard board.now.cores board.now.bus now → vec_capacity text.old < vec_len text.old + length (index_lines now.world.accesses core 128)) }
+    ensures capacity { vec_capacity text.old ≤ vec_capacity text.new }
 {
     for index in 0..128u32 {
         append_index(index, line_address(board, core, index), text)?;
@@ -106,7 +114,9 @@ fn append_indexes(board: &Board, core: u32, text: &mut Vec<u8>) -> Result<(), Al
 /// Appends the valid lines of a core's data cache, by index, or nothing where the board has no such core.
 #[tactic(auto, unfolding(crate::specs::BoardText::lines_text))]
 pub fn append_lines(board: &Board, core: u32, text: &mut Vec<u8>) -> Result<(), AllocError>
-    ensures { OnOk result ((now : BoardModel) → IsBoard board.now.cores board.now.bus now → text.new.items ≡ text.old.items ++ lines_text now core) }
+    ensures text { OnOk result ((now : BoardModel) → IsBoard board.now.cores board.now.bus now → text.new.items ≡ text.old.items ++ lines_text now core) }
+    ensures full { OnErr result ((now : BoardModel) → IsBoard board.now.cores board.now.bus now → vec_capacity text.old < vec_len text.old + length (lines_text now core)) }
+    ensures capacity { vec_capacity text.old ≤ vec_capacity text.new }
 {
     if (core as usize) < board.cores().len() {
         append_indexes(board, core, text)

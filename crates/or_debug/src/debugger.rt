@@ -1,5 +1,5 @@
 //! The debugger on a schedule.
-ghost use Rattle.std.specs.Prelude.{◌≡◌, ◌<◌, ◌≤◌, ◌+◌, ◌++◌, ℕ, List, [], length, codes, decimal, OnOk, IfOk};
+ghost use Rattle.std.specs.Prelude.{◌≡◌, ◌<◌, ◌≤◌, ◌+◌, ◌++◌, ℕ, List, [], length, codes, decimal, OnOk, OnErr, IfOk, vec_capacity, vec_len};
 ghost use Rattle.or_script.specs.declared.command.Command.TheVariants.{Go, Turn};
 ghost use Rattle.or_script.specs.Last.{HasFewTurns};
 ghost use Rattle.circular_buffer.specs.Buffer.{buffer};
@@ -29,7 +29,9 @@ pub struct Debugger {
 
 /// Appends a line of a word and the number of turns so far.
 pub fn append_turn(word: &[u8], turn: usize, text: &mut Vec<u8>) -> Result<(), AllocError>
-    ensures { OnOk result (text.new.items ≡ text.old.items ++ (word.now ++ decimal turn ++ codes "\n")) }
+    ensures text { OnOk result (text.new.items ≡ text.old.items ++ (word.now ++ decimal turn ++ codes "\n")) }
+    ensures full { OnErr result (vec_capacity text.old < vec_len text.old + length ((word.now ++ decimal turn ++ codes "\n"))) }
+    ensures capacity { vec_capacity text.old ≤ vec_capacity text.new }
 {
     text.extend_from_slice(word)?;
     append_decimal(turn as u64, text)?;

@@ -1,5 +1,5 @@
 //! Breakpoints, watchpoints and store points.
-ghost use Rattle.std.specs.Prelude.{◌≡◌, ◌++◌, OnOk, map};
+ghost use Rattle.std.specs.Prelude.{◌≡◌, ◌≤◌, ◌<◌, ◌+◌, ◌++◌, OnOk, OnErr, length, map, vec_capacity, vec_len};
 ghost use Rattle.std.specs.List.{flat_map};
 ghost use Rattle.or_model.specs.Turn.{Board as BoardModel};
 ghost use Rattle.or_replay.specs.Board.{IsBoard};
@@ -20,7 +20,9 @@ pub struct Watchpoint {
 }
 
 fn append_break(point: Breakpoint, made: MadeTurn, text: &mut Vec<u8>) -> Result<(), AllocError>
-    ensures { OnOk result (text.new.items ≡ text.old.items ++ break_line made point) }
+    ensures text { OnOk result (text.new.items ≡ text.old.items ++ break_line made point) }
+    ensures full { OnErr result (vec_capacity text.old < vec_len text.old + length (break_line made point)) }
+    ensures capacity { vec_capacity text.old ≤ vec_capacity text.new }
 {
     let core = u32::from(made.core);
     if !point.is_hit(core, made.pc) {
@@ -39,7 +41,9 @@ pub(crate) fn append_breaks(
     made: MadeTurn,
     text: &mut Vec<u8>,
 ) -> Result<(), AllocError>
-    ensures { OnOk result (text.new.items ≡ text.old.items ++ flat_map (break_line made) points.now) }
+    ensures text { OnOk result (text.new.items ≡ text.old.items ++ flat_map (break_line made) points.now) }
+    ensures full { OnErr result (vec_capacity text.old < vec_len text.old + length (flat_map (break_line made) points.now)) }
+    ensures capacity { vec_capacity text.old ≤ vec_capacity text.new }
 {
     for point in points {
         append_break(*point, made, text)?;
@@ -49,7 +53,9 @@ pub(crate) fn append_breaks(
 
 // A word of RAM before and after a turn, at the end of a line.
 fn append_words(address: u32, old: u32, new: u32, text: &mut Vec<u8>) -> Result<(), AllocError>
-    ensures { OnOk result (text.new.items ≡ text.old.items ++ words_text address old new) }
+    ensures text { OnOk result (text.new.items ≡ text.old.items ++ words_text address old new) }
+    ensures full { OnErr result (vec_capacity text.old < vec_len text.old + length (words_text address old new)) }
+    ensures capacity { vec_capacity text.old ≤ vec_capacity text.new }
 {
     text.extend_from_slice(b" ")?;
     append_word(address, text)?;
@@ -67,7 +73,9 @@ fn append_changed(
     new: u32,
     text: &mut Vec<u8>,
 ) -> Result<(), AllocError>
-    ensures { OnOk result (text.new.items ≡ text.old.items ++ changed_line turn address old new) }
+    ensures text { OnOk result (text.new.items ≡ text.old.items ++ changed_line turn address old new) }
+    ensures full { OnErr result (vec_capacity text.old < vec_len text.old + length (changed_line turn address old new)) }
+    ensures capacity { vec_capacity text.old ≤ vec_capacity text.new }
 {
     text.extend_from_slice(b"watch turn ")?;
     append_decimal(turn, text)?;
@@ -82,7 +90,9 @@ fn append_change(
     new: Option<u32>,
     text: &mut Vec<u8>,
 ) -> Result<(), AllocError>
-    ensures { OnOk result (text.new.items ≡ text.old.items ++ change_line turn address old new) }
+    ensures text { OnOk result (text.new.items ≡ text.old.items ++ change_line turn address old new) }
+    ensures full { OnErr result (vec_capacity text.old < vec_len text.old + length (change_line turn address old new)) }
+    ensures capacity { vec_capacity text.old ≤ vec_capacity text.new }
 {
     match old {
         None => Ok(()),
@@ -119,6 +129,8 @@ pub(crate) fn append_changes(
     text: &mut Vec<u8>,
 ) -> Result<(), AllocError>
     ensures text { OnOk result ((now : BoardModel) → IsBoard board.old.cores board.old.bus now → text.new.items ≡ text.old.items ++ flat_map (seen_line turn now.world.ram) points.now) }
+    ensures full { OnErr result ((now : BoardModel) → IsBoard board.old.cores board.old.bus now → vec_capacity text.old < vec_len text.old + length (flat_map (seen_line turn now.world.ram) points.now)) }
+    ensures capacity { vec_capacity text.old ≤ vec_capacity text.new }
     ensures board { (now : BoardModel) → IsBoard board.old.cores board.old.bus now → IsBoard board.new.cores board.new.bus now }
     ensures config { board.new.config ≡ board.old.config }
 {
@@ -146,7 +158,9 @@ fn append_stored(
     new: u32,
     text: &mut Vec<u8>,
 ) -> Result<(), AllocError>
-    ensures { OnOk result (text.new.items ≡ text.old.items ++ stored_line made address old new) }
+    ensures text { OnOk result (text.new.items ≡ text.old.items ++ stored_line made address old new) }
+    ensures full { OnErr result (vec_capacity text.old < vec_len text.old + length (stored_line made address old new)) }
+    ensures capacity { vec_capacity text.old ≤ vec_capacity text.new }
 {
     text.extend_from_slice(b"store turn ")?;
     append_decimal(made.turn, text)?;
@@ -163,7 +177,9 @@ fn append_store(
     new: Option<u32>,
     text: &mut Vec<u8>,
 ) -> Result<(), AllocError>
-    ensures { OnOk result (text.new.items ≡ text.old.items ++ store_words made address old new) }
+    ensures text { OnOk result (text.new.items ≡ text.old.items ++ store_words made address old new) }
+    ensures full { OnErr result (vec_capacity text.old < vec_len text.old + length (store_words made address old new)) }
+    ensures capacity { vec_capacity text.old ≤ vec_capacity text.new }
 {
     match old {
         None => Ok(()),
@@ -188,6 +204,8 @@ pub(crate) fn append_stores(
     text: &mut Vec<u8>,
 ) -> Result<(), AllocError>
     ensures text { OnOk result ((now : BoardModel) → IsBoard board.old.cores board.old.bus now → text.new.items ≡ text.old.items ++ flat_map (seen_store made now.world.ram) points.now) }
+    ensures full { OnErr result ((now : BoardModel) → IsBoard board.old.cores board.old.bus now → vec_capacity text.old < vec_len text.old + length (flat_map (seen_store made now.world.ram) points.now)) }
+    ensures capacity { vec_capacity text.old ≤ vec_capacity text.new }
     ensures board { (now : BoardModel) → IsBoard board.old.cores board.old.bus now → IsBoard board.new.cores board.new.bus now }
     ensures config { board.new.config ≡ board.old.config }
 {

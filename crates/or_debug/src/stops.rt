@@ -1,5 +1,5 @@
 //! The points at which a session stops.
-ghost use Rattle.std.specs.Prelude.{◌≡◌, ◌++◌, ◌∷◌, [], ℕ, List, None, OnOk, map};
+ghost use Rattle.std.specs.Prelude.{◌≡◌, ◌≤◌, ◌<◌, ◌+◌, ◌++◌, ◌∷◌, [], ℕ, List, None, OnOk, OnErr, length, map, vec_capacity, vec_len};
 ghost use Rattle.or_model.specs.Turn.{Board as BoardModel};
 ghost use Rattle.or_replay.specs.Board.{IsBoard};
 ghost use Rattle.or_debug.specs.Points.{no_points, with_break, with_watch, with_store};
@@ -27,6 +27,8 @@ fn push_seen(
 ) -> Result<(), AllocError>
     ensures points { OnOk result ((now : BoardModel) → IsBoard board.old.cores board.old.bus now
         → points.new.items ≡ points.old.items ++ seen now.world.ram (record { address = address; word = None }) ∷ []) }
+    ensures same { OnErr result (points.new.items ≡ points.old.items) }
+    ensures full { OnErr result (vec_capacity points.old ≤ vec_len points.old) }
     ensures board { (now : BoardModel) → IsBoard board.old.cores board.old.bus now → IsBoard board.new.cores board.new.bus now }
     ensures config { board.new.config ≡ board.old.config }
 {
@@ -69,6 +71,8 @@ impl Stops {
     /// its pc at the address.
     pub fn set_break(&mut self, core: Option<u32>, pc: u32) -> Result<(), AllocError>
         ensures points { OnOk result (points_of self.new ≡ with_break (points_of self.old) core pc) }
+        ensures same { OnErr result (points_of self.new ≡ points_of self.old) }
+        ensures full { OnErr result (vec_capacity self.old.breaks ≤ vec_len self.old.breaks) }
         ensures seen { OnOk result ((ram : List ℕ) → HasSeen ram self.old → HasSeen ram self.new) }
     {
         match self.breaks.push(Breakpoint { core, pc }) {
@@ -80,6 +84,8 @@ impl Stops {
     /// From now on a watchpoint is there, which has seen RAM as it is.
     pub fn set_watch(&mut self, board: &mut Board, address: u32) -> Result<(), AllocError>
         ensures points { OnOk result ((now : BoardModel) → IsBoard board.old.cores board.old.bus now → points_of self.new ≡ with_watch (points_of self.old) address) }
+        ensures same { OnErr result (points_of self.new ≡ points_of self.old) }
+        ensures full { OnErr result (vec_capacity self.old.watches ≤ vec_len self.old.watches) }
         ensures seen { OnOk result ((now : BoardModel) → IsBoard board.old.cores board.old.bus now → HasSeen now.world.ram self.old → HasSeen now.world.ram self.new) }
         ensures board { (now : BoardModel) → IsBoard board.old.cores board.old.bus now → IsBoard board.new.cores board.new.bus now }
         ensures config { board.new.config ≡ board.old.config }
@@ -90,6 +96,8 @@ impl Stops {
     /// From now on a store point is there, which has seen RAM as it is.
     pub fn set_store(&mut self, board: &mut Board, address: u32) -> Result<(), AllocError>
         ensures points { OnOk result ((now : BoardModel) → IsBoard board.old.cores board.old.bus now → points_of self.new ≡ with_store (points_of self.old) address) }
+        ensures same { OnErr result (points_of self.new ≡ points_of self.old) }
+        ensures full { OnErr result (vec_capacity self.old.stores ≤ vec_len self.old.stores) }
         ensures seen { OnOk result ((now : BoardModel) → IsBoard board.old.cores board.old.bus now → HasSeen now.world.ram self.old → HasSeen now.world.ram self.new) }
         ensures board { (now : BoardModel) → IsBoard board.old.cores board.old.bus now → IsBoard board.new.cores board.new.bus now }
         ensures config { board.new.config ≡ board.old.config }
@@ -117,6 +125,9 @@ impl Stops {
     ) -> Result<(), AllocError>
         ensures text { OnOk result ((now : BoardModel) (before : List ℕ) → IsBoard board.old.cores board.old.bus now → HasSeen before self.old
             → text.new.items ≡ text.old.items ++ hits_of made before now.world.ram (points_of self.old)) }
+        ensures full { OnErr result ((now : BoardModel) (before : List ℕ) → IsBoard board.old.cores board.old.bus now → HasSeen before self.old
+            → vec_capacity text.old < vec_len text.old + length (hits_of made before now.world.ram (points_of self.old))) }
+        ensures capacity { vec_capacity text.old ≤ vec_capacity text.new }
         ensures looked { OnOk result ((now : BoardModel) → IsBoard board.old.cores board.old.bus now → HasLooked now.world.ram self.old self.new) }
         ensures board { (now : BoardModel) → IsBoard board.old.cores board.old.bus now → IsBoard board.new.cores board.new.bus now }
         ensures config { board.new.config ≡ board.old.config }

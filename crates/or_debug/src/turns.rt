@@ -1,5 +1,5 @@
 //! The turns that are made.
-ghost use Rattle.std.specs.Prelude.{◌≡◌, ◌+◌, ◌<◌, ◌++◌, OnOk, drop, length, slice_get};
+ghost use Rattle.std.specs.Prelude.{◌≡◌, ◌+◌, ◌≤◌, ◌<◌, ◌++◌, OnOk, OnErr, drop, length, slice_get, vec_capacity, vec_len};
 ghost use Rattle.or_model.specs.Turn.{Board as BoardModel};
 ghost use Rattle.or_debug.specs.Turns.{last_of, pc_of, stored_by, word_stored, stored_in};
 ghost use Rattle.or_debug.specs.Standing.{CanFollow, IsAfter, IsTurnMade};
@@ -77,7 +77,9 @@ fn letter(core: u8) -> u8
 
 /// Appends the line of a turn that was made.
 pub fn append_made(made: MadeTurn, text: &mut Vec<u8>) -> Result<(), AllocError>
-    ensures { OnOk result (text.new.items ≡ text.old.items ++ made_line made) }
+    ensures text { OnOk result (text.new.items ≡ text.old.items ++ made_line made) }
+    ensures full { OnErr result (vec_capacity text.old < vec_len text.old + length (made_line made)) }
+    ensures capacity { vec_capacity text.old ≤ vec_capacity text.new }
 {
     append_decimal(made.turn, text)?;
     text.extend_from_slice(&[b' ', letter(made.core), b' '])?;
@@ -92,7 +94,9 @@ fn append_at(
     index: usize,
     text: &mut Vec<u8>,
 ) -> Result<(), AllocError>
-    ensures { OnOk result (text.new.items ++ made_text (drop (index + 1) last.now.items) ≡ text.old.items ++ made_text (drop index last.now.items)) }
+    ensures text { OnOk result (text.new.items ++ made_text (drop (index + 1) last.now.items) ≡ text.old.items ++ made_text (drop index last.now.items)) }
+    ensures full { OnErr result (vec_capacity text.old < vec_len text.old + length (made_text (drop index last.now.items))) }
+    ensures capacity { vec_capacity text.old ≤ vec_capacity text.new }
 {
     match last.get(index) {
         Some(made) => append_made(*made, text),
@@ -106,7 +110,9 @@ pub(crate) fn append_last(
     turns: u32,
     text: &mut Vec<u8>,
 ) -> Result<(), AllocError>
-    ensures { OnOk result (text.new.items ≡ text.old.items ++ made_text (last_of turns last.now.items)) }
+    ensures text { OnOk result (text.new.items ≡ text.old.items ++ made_text (last_of turns last.now.items)) }
+    ensures full { OnErr result (vec_capacity text.old < vec_len text.old + length (made_text (last_of turns last.now.items))) }
+    ensures capacity { vec_capacity text.old ≤ vec_capacity text.new }
 {
     let from = last.len().saturating_sub(turns as usize);
     for index in from..last.len() {

@@ -42,4 +42,4 @@ returns-clause-answered c =
     let past : length now.history.turns.items ≤ now.history.at = omega (arith, c.len.ensures, now.history.turns.ok.0, c.loop-history-test.false) in
     on_ok_weaker c.append_turn.result (λ text start turns stands.
     goes_end start turns c.args.history.now now.history c.args.stops.now now.stops c.append_turn.new.text.items (now.invariant.goes start turns stands) past
-    (text ∙ ap (λ l. l ++ end_line now.history.at) now.invariant.nothing)) c.append_turn.ensures
+    (text ∙ ap (λ l. l ++ end_line now.history.at) now.invariant.nothing)) c.append_turn.ensures.text

@@ -11,4 +11,4 @@ returns-clause-gone c =
       stands = is.stands;
       state = is.state;
       text_is = text ∙ ap (λ (l : List ℕ). l ++ at_line c.arrive.new.history.at) c.requires ∙ ap (λ (s : State). at_line s.turn) is.state;
-    }) c.append_turn.ensures
+    }) c.append_turn.ensures.text

@@ -29,4 +29,4 @@ pub returns-clause-answered : goal.returns-clause-answered
 returns-clause-answered c =
     on_ok_weaker c.append_turn.result (λ text start can stands.
     going_ends start c.args.turns.now c.args.self.now c.loop-self.self c.append_turn.new.text.items c.loop-self.board.cores c.loop-self.board.bus
-    (c.loop-self.invariant.going start can stands) c.loop-self-test.false (text ∙ ap (λ l. l ++ end_line c.loop-self.self.turn) c.loop-self.invariant.nothing)) c.append_turn.ensures
+    (c.loop-self.invariant.going start can stands) c.loop-self-test.false (text ∙ ap (λ l. l ++ end_line c.loop-self.self.turn) c.loop-self.invariant.nothing)) c.append_turn.ensures.text

@@ -17,4 +17,4 @@ returns-clause-answered c =
     c.advance_to.new.board.cores c.look_again.new.board.cores c.advance_to.new.board.bus c.look_again.new.board.bus
     (c.advance_to.ensures.reaches start can stands.reaches) (turn ∙ end)
     (λ now is. subst (λ (s : Stops). HasLooked now.world.ram s c.look_again.new.self) c.advance_to.ensures.stops (c.look_again.ensures.looked now is)) c.look_again.ensures.board
-    (text ∙ ap (λ l. l ++ at_line c.advance_to.new.self.turn) c.requires)) c.append_turn.ensures
+    (text ∙ ap (λ l. l ++ at_line c.advance_to.new.self.turn) c.requires)) c.append_turn.ensures.text
