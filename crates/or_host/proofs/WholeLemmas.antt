@@ -24,7 +24,7 @@ pub same_refl : (told : Option Content) → TellsSame told told
 same_refl None = tt
 same_refl (Some file) = refl
 
-pub same_trans : (old mid new : Option Content) → TellsSame old mid → TellsSame mid new → TellsSame old new
+pub same_trans : {T : Type 0} (old mid new : Option T) → TellsSame old mid → TellsSame mid new → TellsSame old new
 same_trans old mid None p q = tt
 same_trans old None (Some new) p q = absurd q
 same_trans None (Some mid) (Some new) p q = absurd p

@@ -2,12 +2,14 @@
 use Rattle.std.specs.Prelude.{◌≡◌, ℕ, List, Option, None}
 use Rattle.or_host.specs.declared.files.FileHost.{FileHost}
 use Rattle.or_host.specs.Told.{Content}
+use Rattle.or_host.specs.Pairs.{Pairs}
 use Rattle.or_host.specs.HostState.{HostState}
 
 -- It tells of files what they tell, and nothing of what was written out or said. `R` is the type of the files' readers.
-abbrev pub files_state : {F O E R : Type 0} → (F → List ℕ → Option Content) → FileHost F O E R → HostState
-files_state holds host = record {
+abbrev pub files_state : {F O E R : Type 0} → (F → List ℕ → Option Content) → (F → Pairs) → FileHost F O E R → HostState
+files_state holds pairs host = record {
   holds = λ name. holds host.files name;
+  pairs = λ one other. pairs host.files one other;
   written = None;
   said = None;
   faults = host.faults;

@@ -2,10 +2,13 @@
 use Rattle.std.specs.Prelude.{ℕ, List, Option}
 use Rattle.or_host.specs.Told.{Content}
 use Rattle.or_host.specs.Blamed.{Blamed}
+use Rattle.or_host.specs.Pairs.{Pairs}
 
 pub record HostState : Type 0 where
   -- what each name holds, where the host tells it
   pub holds : List ℕ → Option Content
+  -- whether two names lead to one file, where the host tells it
+  pub pairs : Pairs
   -- what was written to standard output, and what was said, where the host tells it
   pub written : Option (List ℕ)
   pub said : Option (List ℕ)

@@ -1,5 +1,6 @@
 pub mod Bytes
 pub mod Told
+pub mod Pairs
 pub mod Blamed
 pub mod HostState
 pub mod Counts
@@ -8,6 +9,7 @@ pub mod Named
 pub mod Store
 pub mod Failing
 pub mod Given
+pub mod Links
 pub mod Memory
 pub mod Sure
 pub mod FileHost

@@ -1,6 +1,7 @@
 -- What a host that never fails holds.
 use Rattle.std.specs.Prelude.{◌≡◌, ◌≢◌, ℕ, List, Option, Some, None}
 use Rattle.std.specs.Option.{option_map}
+use Rattle.std.specs.Str.{bytes_eq}
 use Rattle.or_host.specs.declared.sure.SureHost.{SureHost}
 use Rattle.or_host.specs.HostState.{HostState}
 use Rattle.or_host.specs.Given.{given}
@@ -13,6 +14,7 @@ sure_files host name = given host.files.items name
 abbrev pub sure_state : SureHost → HostState
 sure_state host = record {
   holds = λ name. option_map Some (given host.files.items name);
+  pairs = λ one other. Some (bytes_eq one other);
   written = None;
   said = None;
   faults = 0;

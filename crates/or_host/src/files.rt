@@ -6,6 +6,7 @@ ghost use Rattle.or_host.specs.Named.{Sends, LacksRoom};
 ghost use Rattle.or_host.specs.declared.host.Operation.{Operation};
 ghost use Rattle.or_host.specs.Blamed.{blamed};
 ghost use Rattle.or_host.specs.Told.{TellsSame};
+ghost use Rattle.or_host.specs.Pairs.{IsTold, KeepsPairs};
 
 use crate::blame::note;
 use crate::whole::{append_whole, load_named, write_whole};
@@ -62,16 +63,23 @@ impl<F: NamedFiles + Drop, O: Write + Drop, E: Write + Drop> FileHost<F, O, E> {
 impl<F: NamedFiles + Drop, O: Write + Drop, E: Write + Drop> Host for FileHost<F, O, E> {
     ghost use Rattle.or_host.specs.FileHost.{files_state, KeepsWriters};
 
-    ghost state = { files_state F.holds };
+    ghost state = { files_state F.holds F.pairs };
+
+    fn same(&self, one: &str, other: &str) -> bool
+        ensures { IsTold result ((files_state F.holds F.pairs self.now).pairs one.now other.now) }
+    {
+        self.files.same(one, other)
+    }
 
     fn load(&mut self, name: &str, max: usize, into: &mut Vec<u8>) -> Result<(), LoadFail>
         requires name { IsName name.now }
         requires empty { into.old.items ≡ [] }
-        ensures taken { Takes result ((files_state F.holds self.old).holds name.now) max into.new.items }
-        ensures names { (other : List ℕ) → TellsSame ((files_state F.holds self.old).holds other) ((files_state F.holds self.new).holds other) }
-        ensures written { TellsSame ((files_state F.holds self.old).written) ((files_state F.holds self.new).written) }
-        ensures said { TellsSame ((files_state F.holds self.old).said) ((files_state F.holds self.new).said) }
-        ensures counts { LoadCounts result (blamed Operation.Load name.now) (files_state F.holds self.old) (files_state F.holds self.new) }
+        ensures taken { Takes result ((files_state F.holds F.pairs self.old).holds name.now) max into.new.items }
+        ensures names { (other : List ℕ) → TellsSame ((files_state F.holds F.pairs self.old).holds other) ((files_state F.holds F.pairs self.new).holds other) }
+        ensures written { TellsSame ((files_state F.holds F.pairs self.old).written) ((files_state F.holds F.pairs self.new).written) }
+        ensures said { TellsSame ((files_state F.holds F.pairs self.old).said) ((files_state F.holds F.pairs self.new).said) }
+        ensures pairs { KeepsPairs ((files_state F.holds F.pairs self.old).pairs) ((files_state F.holds F.pairs self.new).pairs) }
+        ensures counts { LoadCounts result (blamed Operation.Load name.now) (files_state F.holds F.pairs self.old) (files_state F.holds F.pairs self.new) }
         ensures full { LacksRoom result (vec_capacity into.old) into.new.items }
         ensures writers { KeepsWriters self.old self.new }
     {
@@ -90,11 +98,12 @@ impl<F: NamedFiles + Drop, O: Write + Drop, E: Write + Drop> Host for FileHost<F
 
     fn create(&mut self, name: &str) -> Result<(), Failed>
         requires { IsName name.now }
-        ensures own { Empties result ((files_state F.holds self.old).holds name.now) ((files_state F.holds self.new).holds name.now) }
-        ensures others { (other : List ℕ) → other ≢ name.now → TellsSame ((files_state F.holds self.old).holds other) ((files_state F.holds self.new).holds other) }
-        ensures written { TellsSame ((files_state F.holds self.old).written) ((files_state F.holds self.new).written) }
-        ensures said { TellsSame ((files_state F.holds self.old).said) ((files_state F.holds self.new).said) }
-        ensures counts { WriteCounts result (blamed Operation.Write name.now) (files_state F.holds self.old) (files_state F.holds self.new) }
+        ensures own { Empties result ((files_state F.holds F.pairs self.old).holds name.now) ((files_state F.holds F.pairs self.new).holds name.now) }
+        ensures others { (other : List ℕ) → other ≢ name.now → TellsSame ((files_state F.holds F.pairs self.old).holds other) ((files_state F.holds F.pairs self.new).holds other) }
+        ensures written { TellsSame ((files_state F.holds F.pairs self.old).written) ((files_state F.holds F.pairs self.new).written) }
+        ensures said { TellsSame ((files_state F.holds F.pairs self.old).said) ((files_state F.holds F.pairs self.new).said) }
+        ensures pairs { KeepsPairs ((files_state F.holds F.pairs self.old).pairs) ((files_state F.holds F.pairs self.new).pairs) }
+        ensures counts { WriteCounts result (blamed Operation.Write name.now) (files_state F.holds F.pairs self.old) (files_state F.holds F.pairs self.new) }
         ensures writers { KeepsWriters self.old self.new }
     {
         match self.files.create(name) {
@@ -108,11 +117,12 @@ impl<F: NamedFiles + Drop, O: Write + Drop, E: Write + Drop> Host for FileHost<F
 
     fn append(&mut self, name: &str, bytes: &[u8]) -> Result<(), Failed>
         requires { IsName name.now }
-        ensures own { Extends result bytes.now ((files_state F.holds self.old).holds name.now) ((files_state F.holds self.new).holds name.now) }
-        ensures others { (other : List ℕ) → other ≢ name.now → TellsSame ((files_state F.holds self.old).holds other) ((files_state F.holds self.new).holds other) }
-        ensures written { TellsSame ((files_state F.holds self.old).written) ((files_state F.holds self.new).written) }
-        ensures said { TellsSame ((files_state F.holds self.old).said) ((files_state F.holds self.new).said) }
-        ensures counts { WriteCounts result (blamed Operation.Write name.now) (files_state F.holds self.old) (files_state F.holds self.new) }
+        ensures own { Extends result bytes.now ((files_state F.holds F.pairs self.old).holds name.now) ((files_state F.holds F.pairs self.new).holds name.now) }
+        ensures others { (other : List ℕ) → other ≢ name.now → TellsSame ((files_state F.holds F.pairs self.old).holds other) ((files_state F.holds F.pairs self.new).holds other) }
+        ensures written { TellsSame ((files_state F.holds F.pairs self.old).written) ((files_state F.holds F.pairs self.new).written) }
+        ensures said { TellsSame ((files_state F.holds F.pairs self.old).said) ((files_state F.holds F.pairs self.new).said) }
+        ensures pairs { KeepsPairs ((files_state F.holds F.pairs self.old).pairs) ((files_state F.holds F.pairs self.new).pairs) }
+        ensures counts { WriteCounts result (blamed Operation.Write name.now) (files_state F.holds F.pairs self.old) (files_state F.holds F.pairs self.new) }
         ensures writers { KeepsWriters self.old self.new }
     {
         match append_whole(&mut self.files, name, bytes) {
@@ -125,10 +135,11 @@ impl<F: NamedFiles + Drop, O: Write + Drop, E: Write + Drop> Host for FileHost<F
     }
 
     fn out(&mut self, bytes: &[u8]) -> Result<(), Failed>
-        ensures names { (other : List ℕ) → TellsSame ((files_state F.holds self.old).holds other) ((files_state F.holds self.new).holds other) }
-        ensures written { Emits result bytes.now ((files_state F.holds self.old).written) ((files_state F.holds self.new).written) }
-        ensures said { TellsSame ((files_state F.holds self.old).said) ((files_state F.holds self.new).said) }
-        ensures counts { WriteCounts result (blamed Operation.Write dash) (files_state F.holds self.old) (files_state F.holds self.new) }
+        ensures names { (other : List ℕ) → TellsSame ((files_state F.holds F.pairs self.old).holds other) ((files_state F.holds F.pairs self.new).holds other) }
+        ensures written { Emits result bytes.now ((files_state F.holds F.pairs self.old).written) ((files_state F.holds F.pairs self.new).written) }
+        ensures said { TellsSame ((files_state F.holds F.pairs self.old).said) ((files_state F.holds F.pairs self.new).said) }
+        ensures pairs { KeepsPairs ((files_state F.holds F.pairs self.old).pairs) ((files_state F.holds F.pairs self.new).pairs) }
+        ensures counts { WriteCounts result (blamed Operation.Write dash) (files_state F.holds F.pairs self.old) (files_state F.holds F.pairs self.new) }
         ensures sent { Sends result bytes.now (O.contents self.old.out) (O.contents self.new.out) }
         ensures err { self.new.err ≡ self.old.err }
     {
@@ -142,10 +153,11 @@ impl<F: NamedFiles + Drop, O: Write + Drop, E: Write + Drop> Host for FileHost<F
     }
 
     fn say(&mut self, bytes: &[u8]) -> Result<(), Failed>
-        ensures names { (other : List ℕ) → TellsSame ((files_state F.holds self.old).holds other) ((files_state F.holds self.new).holds other) }
-        ensures written { TellsSame ((files_state F.holds self.old).written) ((files_state F.holds self.new).written) }
-        ensures said { Emits result bytes.now ((files_state F.holds self.old).said) ((files_state F.holds self.new).said) }
-        ensures counts { SayCounts result (files_state F.holds self.old) (files_state F.holds self.new) }
+        ensures names { (other : List ℕ) → TellsSame ((files_state F.holds F.pairs self.old).holds other) ((files_state F.holds F.pairs self.new).holds other) }
+        ensures written { TellsSame ((files_state F.holds F.pairs self.old).written) ((files_state F.holds F.pairs self.new).written) }
+        ensures said { Emits result bytes.now ((files_state F.holds F.pairs self.old).said) ((files_state F.holds F.pairs self.new).said) }
+        ensures pairs { KeepsPairs ((files_state F.holds F.pairs self.old).pairs) ((files_state F.holds F.pairs self.new).pairs) }
+        ensures counts { SayCounts result (files_state F.holds F.pairs self.old) (files_state F.holds F.pairs self.new) }
         ensures sent { Sends result bytes.now (E.contents self.old.err) (E.contents self.new.err) }
         ensures out { self.new.out ≡ self.old.out }
     {

@@ -3,6 +3,7 @@ ghost use Rattle.std.specs.Prelude.{◌≡◌, ◌≢◌, [], List, ℕ};
 ghost use Rattle.or_host.specs.declared.host.Operation.{Operation};
 ghost use Rattle.or_host.specs.Blamed.{blamed};
 ghost use Rattle.or_host.specs.Told.{TellsSame};
+ghost use Rattle.or_host.specs.Pairs.{IsTold, KeepsPairs};
 ghost use Rattle.or_host.specs.Counts.{LoadCounts, WriteCounts, SayCounts};
 ghost use Rattle.or_host.specs.HostState.{HostState};
 ghost use Rattle.or_host.specs.Calls.{IsName, dash, Takes, Empties, Extends, Emits};
@@ -55,11 +56,17 @@ impl Model for Blame {
 
 /// Files by name, standard output, and a place where faults are said.
 ///
-/// A host counts its faults, and keeps what was being done at the last one. Faults of `say` are counted for themselves.
+/// A host counts its faults, and keeps what was being done at the last one. Faults of `say` are counted for themselves. `same` is no
+/// counted call.
 /// It also counts the loads that found no memory. A count stands still at the last value of a `u64`.
 pub trait Host {
     /// What a contract sees of the host at a moment.
     ghost state: { Self → HostState };
+
+    /// Whether two names lead to one file: a question that changes nothing and that does not fail. A special file, as a terminal,
+    /// is none that two names lead to.
+    fn same(&self, one: &str, other: &str) -> bool
+        ensures { IsTold result ((state self.now).pairs one.now other.now) };
 
     /// Takes the bytes that a name holds into an empty list: all of them where they are at most `max`.
     ///
@@ -72,6 +79,7 @@ pub trait Host {
         ensures names { (other : List ℕ) → TellsSame ((state self.old).holds other) ((state self.new).holds other) }
         ensures written { TellsSame ((state self.old).written) ((state self.new).written) }
         ensures said { TellsSame ((state self.old).said) ((state self.new).said) }
+        ensures pairs { KeepsPairs ((state self.old).pairs) ((state self.new).pairs) }
         ensures counts { LoadCounts result (blamed Operation.Load name.now) (state self.old) (state self.new) };
 
     /// Makes a name hold nothing. A failure leaves it as it was.
@@ -81,6 +89,7 @@ pub trait Host {
         ensures others { (other : List ℕ) → other ≢ name.now → TellsSame ((state self.old).holds other) ((state self.new).holds other) }
         ensures written { TellsSame ((state self.old).written) ((state self.new).written) }
         ensures said { TellsSame ((state self.old).said) ((state self.new).said) }
+        ensures pairs { KeepsPairs ((state self.old).pairs) ((state self.new).pairs) }
         ensures counts { WriteCounts result (blamed Operation.Write name.now) (state self.old) (state self.new) };
 
     /// Adds bytes to what a name holds. A failure adds a prefix of them.
@@ -90,6 +99,7 @@ pub trait Host {
         ensures others { (other : List ℕ) → other ≢ name.now → TellsSame ((state self.old).holds other) ((state self.new).holds other) }
         ensures written { TellsSame ((state self.old).written) ((state self.new).written) }
         ensures said { TellsSame ((state self.old).said) ((state self.new).said) }
+        ensures pairs { KeepsPairs ((state self.old).pairs) ((state self.new).pairs) }
         ensures counts { WriteCounts result (blamed Operation.Write name.now) (state self.old) (state self.new) };
 
     /// Adds bytes to standard output. A failure adds a prefix of them.
@@ -97,6 +107,7 @@ pub trait Host {
         ensures names { (other : List ℕ) → TellsSame ((state self.old).holds other) ((state self.new).holds other) }
         ensures written { Emits result bytes.now ((state self.old).written) ((state self.new).written) }
         ensures said { TellsSame ((state self.old).said) ((state self.new).said) }
+        ensures pairs { KeepsPairs ((state self.old).pairs) ((state self.new).pairs) }
         ensures counts { WriteCounts result (blamed Operation.Write dash) (state self.old) (state self.new) };
 
     /// Adds bytes to what is said. A failure adds a prefix of them, and counts for itself.
@@ -104,5 +115,6 @@ pub trait Host {
         ensures names { (other : List ℕ) → TellsSame ((state self.old).holds other) ((state self.new).holds other) }
         ensures written { TellsSame ((state self.old).written) ((state self.new).written) }
         ensures said { Emits result bytes.now ((state self.old).said) ((state self.new).said) }
+        ensures pairs { KeepsPairs ((state self.old).pairs) ((state self.new).pairs) }
         ensures counts { SayCounts result (state self.old) (state self.new) };
 }

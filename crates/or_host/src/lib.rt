@@ -6,6 +6,7 @@ mod files;
 mod host;
 mod memory;
 mod named;
+mod same;
 mod store;
 mod sure;
 mod whole;

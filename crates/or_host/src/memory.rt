@@ -6,7 +6,9 @@ ghost use Rattle.or_host.specs.Counts.{raised, LoadCounts, WriteCounts, SayCount
 ghost use Rattle.or_host.specs.Calls.{IsName, dash, Takes, Empties, Extends, Emits};
 ghost use Rattle.or_host.specs.declared.host.Operation.{Operation};
 ghost use Rattle.or_host.specs.Blamed.{blamed};
+ghost use Rattle.or_host.specs.Links.{is_link, are_linked};
 ghost use Rattle.or_host.specs.Told.{TellsSame};
+ghost use Rattle.or_host.specs.Pairs.{IsTold, KeepsPairs};
 
 use crate::blame::note;
 use crate::store::{emit, empty_file, grow_file, load_bytes, put_file};
@@ -15,12 +17,14 @@ use or_words::NoMemory;
 use std::alloc::Global;
 use std::collections::BTreeMap;
 
-/// Files, standard output and what was said, in memory. Calls whose numbers are listed fail.
+/// Files, standard output and what was said, in memory. Calls whose numbers are listed fail. Two names lead to one file if they are
+/// one text or listed as a pair; what each of them holds is kept for itself.
 #[derive(Drop)]
 pub struct MemHost {
     alloc: Global,
     files: BTreeMap<String, Vec<u8>>,
     failing: Vec<u64>,
+    links: Vec<(String, String)>,
     calls: u64,
     written: Vec<u8>,
     said: Vec<u8>,
@@ -39,12 +43,23 @@ impl MemHost {
         ensures names { (name : List ℕ) → file_of result name ≡ None }
         ensures written { bytes_out result ≡ [] }
         ensures said { bytes_said result ≡ [] }
-        ensures start { StartsWith failing.items result }
+        ensures start { StartsWith failing.items [] result }
+    {
+        MemHost::with_links(alloc, failing, Vec::new(alloc))
+    }
+
+    /// The same, in which the two names of each of these pairs lead to one file.
+    pub fn with_links(alloc: Global, failing: Vec<u64>, links: Vec<(String, String)>) -> Self
+        ensures names { (name : List ℕ) → file_of result name ≡ None }
+        ensures written { bytes_out result ≡ [] }
+        ensures said { bytes_said result ≡ [] }
+        ensures start { StartsWith failing.items links.items result }
     {
         MemHost {
             alloc,
             files: BTreeMap::new(alloc),
             failing,
+            links,
             calls: 0,
             written: Vec::new(alloc),
             said: Vec::new(alloc),
@@ -102,6 +117,12 @@ impl Host for MemHost {
 
     ghost state = { memory_state };
 
+    fn same(&self, one: &str, other: &str) -> bool
+        ensures { IsTold result ((memory_state self.now).pairs one.now other.now) }
+    {
+        one == other || are_linked(&self.links, one, other)
+    }
+
     fn load(&mut self, name: &str, max: usize, into: &mut Vec<u8>) -> Result<(), LoadFail>
         requires name { IsName name.now }
         requires empty { into.old.items ≡ [] }
@@ -109,6 +130,7 @@ impl Host for MemHost {
         ensures names { (other : List ℕ) → TellsSame ((memory_state self.old).holds other) ((memory_state self.new).holds other) }
         ensures written { TellsSame ((memory_state self.old).written) ((memory_state self.new).written) }
         ensures said { TellsSame ((memory_state self.old).said) ((memory_state self.new).said) }
+        ensures pairs { KeepsPairs ((memory_state self.old).pairs) ((memory_state self.new).pairs) }
         ensures counts { LoadCounts result (blamed Operation.Load name.now) (memory_state self.old) (memory_state self.new) }
         ensures exact { LoadsListed (is_listed self.old) (file_of self.old name.now) max (vec_capacity into.old) result into.new.items }
         ensures counted { CountsCall self.old self.new }
@@ -129,6 +151,7 @@ impl Host for MemHost {
         ensures others { (other : List ℕ) → other ≢ name.now → TellsSame ((memory_state self.old).holds other) ((memory_state self.new).holds other) }
         ensures written { TellsSame ((memory_state self.old).written) ((memory_state self.new).written) }
         ensures said { TellsSame ((memory_state self.old).said) ((memory_state self.new).said) }
+        ensures pairs { KeepsPairs ((memory_state self.old).pairs) ((memory_state self.new).pairs) }
         ensures counts { WriteCounts result (blamed Operation.Write name.now) (memory_state self.old) (memory_state self.new) }
         ensures exact { CreatesListed (is_listed self.old) (is_ok result) (file_of self.old name.now) (file_of self.new name.now) }
         ensures counted { CountsCall self.old self.new }
@@ -147,6 +170,7 @@ impl Host for MemHost {
         ensures others { (other : List ℕ) → other ≢ name.now → TellsSame ((memory_state self.old).holds other) ((memory_state self.new).holds other) }
         ensures written { TellsSame ((memory_state self.old).written) ((memory_state self.new).written) }
         ensures said { TellsSame ((memory_state self.old).said) ((memory_state self.new).said) }
+        ensures pairs { KeepsPairs ((memory_state self.old).pairs) ((memory_state self.new).pairs) }
         ensures counts { WriteCounts result (blamed Operation.Write name.now) (memory_state self.old) (memory_state self.new) }
         ensures exact { AppendsListed (is_listed self.old) (file_room self.old name.now) bytes.now (is_ok result) (file_of self.old name.now) (file_of self.new name.now) }
         ensures counted { CountsCall self.old self.new }
@@ -163,6 +187,7 @@ impl Host for MemHost {
         ensures names { (other : List ℕ) → TellsSame ((memory_state self.old).holds other) ((memory_state self.new).holds other) }
         ensures written { Emits result bytes.now ((memory_state self.old).written) ((memory_state self.new).written) }
         ensures said { TellsSame ((memory_state self.old).said) ((memory_state self.new).said) }
+        ensures pairs { KeepsPairs ((memory_state self.old).pairs) ((memory_state self.new).pairs) }
         ensures counts { WriteCounts result (blamed Operation.Write dash) (memory_state self.old) (memory_state self.new) }
         ensures exact { GrowsListed (is_listed self.old) (out_room self.old) bytes.now (is_ok result) (bytes_out self.old) (bytes_out self.new) }
         ensures counted { CountsCall self.old self.new }
@@ -179,6 +204,7 @@ impl Host for MemHost {
         ensures names { (other : List ℕ) → TellsSame ((memory_state self.old).holds other) ((memory_state self.new).holds other) }
         ensures written { TellsSame ((memory_state self.old).written) ((memory_state self.new).written) }
         ensures said { Emits result bytes.now ((memory_state self.old).said) ((memory_state self.new).said) }
+        ensures pairs { KeepsPairs ((memory_state self.old).pairs) ((memory_state self.new).pairs) }
         ensures counts { SayCounts result (memory_state self.old) (memory_state self.new) }
         ensures exact { GrowsListed (is_listed self.old) (say_room self.old) bytes.now (is_ok result) (bytes_said self.old) (bytes_said self.new) }
         ensures counted { CountsCall self.old self.new }
@@ -199,4 +225,20 @@ fn next_is_listed(failing: &[u64], calls: &mut u64) -> bool
 {
     *calls = calls.saturating_add(1);
     failing.contains(calls)
+}
+
+// Whether one of these pairs is of the two names, in either order.
+fn are_linked(links: &[(String, String)], one: &str, other: &str) -> bool
+    ensures { result ≡ are_linked links.now one.now other.now }
+{
+    let Some((first, rest)) = links.split_first() else {
+        return false;
+    };
+    is_link(first, one, other) || is_link(first, other, one) || are_linked(rest, one, other)
+}
+
+fn is_link(link: &(String, String), one: &str, other: &str) -> bool
+    ensures { result ≡ is_link link.now one.now other.now }
+{
+    link.0.as_str() == one && link.1.as_str() == other
 }

@@ -4,6 +4,7 @@ ghost use Rattle.or_host.specs.Calls.{IsName};
 
 use crate::{Failed, FileHost, Host, LoadFail, NamedFiles};
 use std::alloc::Global;
+use std::fs::Files;
 use std::io::{Error, ErrorKind, Read, sink};
 use std::test::Fail;
 use std::{fs, io};
@@ -112,6 +113,12 @@ impl NamedFiles for Faulty {
 
     ghost holds = { λ _ _. None };
 
+    ghost pairs = { λ _ _ _. None };
+
+    fn same(&self, _one: &str, _other: &str) -> bool {
+        false
+    }
+
     fn open(&mut self, _name: &str) -> Result<Breaks, Failed> {
         Ok(Breaks { left: self.read })
     }
@@ -157,6 +164,33 @@ fn parts_are_added_until_one_fails(rt: HostRuntime) -> Result<(), Fail> {
     assert!(rt;
         appends(&mut host, "a", &bytes) == Err(Failed),
         "a part that fails"
+    );
+    Ok(())
+}
+
+// Names lead to one file by any way, but not to a special one.
+#[test]
+fn names_lead_to_one_file(rt: HostRuntime) -> Result<(), Fail> {
+    let name = "or_host_same.tmp";
+    let mut host = FileHost::new(&rt);
+    let dotted = "./or_host_same.tmp";
+    let link = "or_host_link.tmp";
+    assert!(rt; host.same(name, dotted), "not there, by another way");
+    assert!(rt; !host.same(name, link), "not there, of another name");
+    rt.symlink(name, link)?;
+    let dangling = host.same(name, link);
+    let created = creates(&mut host, name);
+    let linked = host.same(link, dotted);
+    let apart = host.same(name, "/dev/null");
+    fs::remove_file(&rt, link)?;
+    fs::remove_file(&rt, name)?;
+    assert!(rt; created == Ok(()), "creating");
+    assert!(rt; dangling, "a link to a file that is not there");
+    assert!(rt; linked, "a link");
+    assert!(rt; !apart, "a file and a special one");
+    assert!(rt;
+        !host.same("/dev/null", "/dev/null"),
+        "a special file twice"
     );
     Ok(())
 }

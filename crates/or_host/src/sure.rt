@@ -7,6 +7,7 @@ ghost use Rattle.or_host.specs.Calls.{IsName, dash, Takes, Empties, Extends, Emi
 ghost use Rattle.or_host.specs.declared.host.Operation.{Operation};
 ghost use Rattle.or_host.specs.Blamed.{blamed};
 ghost use Rattle.or_host.specs.Told.{TellsSame};
+ghost use Rattle.or_host.specs.Pairs.{IsTold, KeepsPairs};
 
 use crate::store::load_whole;
 use crate::{Failed, Host, LoadFail};
@@ -35,6 +36,14 @@ impl Host for SureHost {
 
     ghost state = { sure_state };
 
+    // Each name leads to a file of its own.
+    fn same(&self, one: &str, other: &str) -> bool
+        ensures { IsTold result ((sure_state self.now).pairs one.now other.now) }
+    {
+        let _ = self;
+        one == other
+    }
+
     // An absent name loads as an empty file.
     fn load(&mut self, name: &str, max: usize, into: &mut Vec<u8>) -> Result<(), LoadFail>
         requires name { IsName name.now }
@@ -43,6 +52,7 @@ impl Host for SureHost {
         ensures names { (other : List ℕ) → TellsSame ((sure_state self.old).holds other) ((sure_state self.new).holds other) }
         ensures written { TellsSame ((sure_state self.old).written) ((sure_state self.new).written) }
         ensures said { TellsSame ((sure_state self.old).said) ((sure_state self.new).said) }
+        ensures pairs { KeepsPairs ((sure_state self.old).pairs) ((sure_state self.new).pairs) }
         ensures counts { LoadCounts result (blamed Operation.Load name.now) (sure_state self.old) (sure_state self.new) }
         ensures exact { LoadsBytes (unwrap_or (sure_files self.old name.now) []) max (vec_capacity into.old) result into.new.items }
         ensures keeps { Keeps self.old self.new }
@@ -65,6 +75,7 @@ impl Host for SureHost {
         ensures others { (other : List ℕ) → other ≢ name.now → TellsSame ((sure_state self.old).holds other) ((sure_state self.new).holds other) }
         ensures written { TellsSame ((sure_state self.old).written) ((sure_state self.new).written) }
         ensures said { TellsSame ((sure_state self.old).said) ((sure_state self.new).said) }
+        ensures pairs { KeepsPairs ((sure_state self.old).pairs) ((sure_state self.new).pairs) }
         ensures counts { WriteCounts result (blamed Operation.Write name.now) (sure_state self.old) (sure_state self.new) }
         ensures done { IsOk result }
         ensures forgets { Forgets name.now self.old self.new }
@@ -79,6 +90,7 @@ impl Host for SureHost {
         ensures others { (other : List ℕ) → other ≢ name.now → TellsSame ((sure_state self.old).holds other) ((sure_state self.new).holds other) }
         ensures written { TellsSame ((sure_state self.old).written) ((sure_state self.new).written) }
         ensures said { TellsSame ((sure_state self.old).said) ((sure_state self.new).said) }
+        ensures pairs { KeepsPairs ((sure_state self.old).pairs) ((sure_state self.new).pairs) }
         ensures counts { WriteCounts result (blamed Operation.Write name.now) (sure_state self.old) (sure_state self.new) }
         ensures done { IsOk result }
         ensures forgets { Forgets name.now self.old self.new }
@@ -91,6 +103,7 @@ impl Host for SureHost {
         ensures names { (other : List ℕ) → TellsSame ((sure_state self.old).holds other) ((sure_state self.new).holds other) }
         ensures written { Emits result _bytes.now ((sure_state self.old).written) ((sure_state self.new).written) }
         ensures said { TellsSame ((sure_state self.old).said) ((sure_state self.new).said) }
+        ensures pairs { KeepsPairs ((sure_state self.old).pairs) ((sure_state self.new).pairs) }
         ensures counts { WriteCounts result (blamed Operation.Write dash) (sure_state self.old) (sure_state self.new) }
         ensures done { IsOk result }
         ensures keeps { Keeps self.old self.new }
@@ -102,6 +115,7 @@ impl Host for SureHost {
         ensures names { (other : List ℕ) → TellsSame ((sure_state self.old).holds other) ((sure_state self.new).holds other) }
         ensures written { TellsSame ((sure_state self.old).written) ((sure_state self.new).written) }
         ensures said { Emits result _bytes.now ((sure_state self.old).said) ((sure_state self.new).said) }
+        ensures pairs { KeepsPairs ((sure_state self.old).pairs) ((sure_state self.new).pairs) }
         ensures counts { SayCounts result (sure_state self.old) (sure_state self.new) }
         ensures done { IsOk result }
         ensures keeps { Keeps self.old self.new }

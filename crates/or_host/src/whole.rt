@@ -2,6 +2,7 @@
 ghost use Rattle.std.specs.Prelude.{◌≡◌, ◌≢◌, [], List, ℕ, Some, vec_capacity};
 ghost use Rattle.std.specs.Option.{option_map};
 ghost use Rattle.or_host.specs.Told.{Content, TellsSame};
+ghost use Rattle.or_host.specs.Pairs.{KeepsPairs};
 ghost use Rattle.or_host.specs.Calls.{Takes, Extends};
 ghost use Rattle.or_host.specs.Named.{Sends, LacksRoom};
 
@@ -18,6 +19,7 @@ pub(crate) fn load_named<F: NamedFiles>(
     requires { into.old.items ≡ [] }
     ensures taken { Takes result (F.holds files.old name.now) max into.new.items }
     ensures names { (other : List ℕ) → TellsSame (F.holds files.old other) (F.holds files.new other) }
+    ensures pairs { KeepsPairs (F.pairs files.old) (F.pairs files.new) }
     ensures full { LacksRoom result (vec_capacity into.old) into.new.items }
 {
     match files.open(name) {
@@ -57,6 +59,7 @@ pub(crate) fn append_whole<F: NamedFiles>(
 ) -> Result<(), Failed>
     ensures own { Extends result bytes.now (F.holds files.old name.now) (F.holds files.new name.now) }
     ensures others { (other : List ℕ) → other ≢ name.now → TellsSame (F.holds files.old other) (F.holds files.new other) }
+    ensures pairs { KeepsPairs (F.pairs files.old) (F.pairs files.new) }
 {
     let first = files.append(name, bytes)?;
     let mut left = &bytes[first..];

@@ -6,15 +6,16 @@ pub loop-left-init : goal.loop-left-init
 loop-left-init g c =
     let bytes = c.args.bytes.now in
     let count = c.in_ok-first.first in
-    (take count bytes, moves_on bytes [] bytes count refl, c.in_ok-first.ensures.own, c.in_ok-first.ensures.others)
+    (take count bytes, moves_on bytes [] bytes count refl, c.in_ok-first.ensures.own, c.in_ok-first.ensures.others, c.in_ok-first.ensures.pairs)
 
 pub loop-left-preserved : goal.loop-left-preserved
 loop-left-preserved g c =
-    let (first, parts, added, others) = c.loop-left.invariant in
+    let (first, parts, added, others, kept) = c.loop-left.invariant in
     let left = c.loop-left.left.now in
     let count = c.in_ok-count.count in (
       first ++ take count left,
       moves_on _ first left count parts,
       adds_more _ _ _ _ _ added c.in_ok-count.ensures.own,
       λ other ne. same_trans _ _ _ (others other ne) (c.in_ok-count.ensures.others other ne),
+      λ one other. same_trans _ _ _ (kept one other) (c.in_ok-count.ensures.pairs one other),
     )
