@@ -2,11 +2,11 @@
 use Rattle.std.specs.Prelude.{ℕ, List, [], ◌++◌}
 use Rattle.or_text.specs.Sentences.{sentence_text, sentence_line}
 use Rattle.or_command.specs.declared.refusal.Refusal.{Refusal}
-use Rattle.or_command.specs.declared.refusal.Refusal.TheVariants.{Image, Source, Schedule, Script, Symbols, NoFailure}
+use Rattle.or_command.specs.declared.refusal.Refusal.TheVariants.{Image, Source, Schedule, Script, Symbols, NoFailure, SameFile}
 use Rattle.or_command.specs.declared.outcome.Outcome.{Outcome}
 use Rattle.or_command.specs.declared.outcome.Outcome.TheVariants.{Done, Unread, TooLong, Refused, Unwritten, NoMemory}
-use Rattle.or_command.specs.Lines.{read_line, write_line, long_line, memory_line, image_line, source_line, schedule_line, script_line, symbols_line, no_failure_line}
-use Rattle.or_command.specs.Sentences.{read_sentence, write_sentence, long_sentence, memory_sentence, no_failure_sentence, detail_sentence}
+use Rattle.or_command.specs.Lines.{read_line, write_line, long_line, memory_line, image_line, source_line, schedule_line, script_line, symbols_line, no_failure_line, same_file_line}
+use Rattle.or_command.specs.Sentences.{read_sentence, write_sentence, long_sentence, memory_sentence, no_failure_sentence, same_file_sentence, detail_sentence}
 
 -- a check that failed: the status that it gives, the line, and the sentence behind it
 pub record FailedCheck : Type 0 where
@@ -21,6 +21,7 @@ failed_check (Schedule name detail) = record { status = 4; line = schedule_line 
 failed_check (Script name fault line why) = record { status = 10; line = script_line name.now fault line; sentence = sentence_text why }
 failed_check (Symbols name fault place why) = record { status = 12; line = symbols_line name.now fault place; sentence = sentence_text why }
 failed_check (NoFailure tries) = record { status = 14; line = no_failure_line tries; sentence = no_failure_sentence }
+failed_check (SameFile one other) = record { status = 16; line = same_file_line one.now other.now; sentence = same_file_sentence }
 
 -- all was done, or what stopped the command
 pub data CommandEnd : Type 0 where

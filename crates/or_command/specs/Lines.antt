@@ -39,6 +39,9 @@ script_line name fault line = codes "or1k: script " ++ name ++ codes " fault " +
 abbrev pub no_failure_line : ℕ → List ℕ
 no_failure_line tries = codes "or1k: no failure in " ++ decimal tries ++ codes " tries\n"
 
+abbrev pub same_file_line : List ℕ → List ℕ → List ℕ
+same_file_line one other = codes "or1k: same file " ++ one ++ codes " " ++ other ++ codes "\n"
+
 -- said while a hunt goes on
 abbrev pub tries_line : ℕ → List ℕ
 tries_line tries = codes "or1k: " ++ decimal tries ++ codes " tries, no failure\n"

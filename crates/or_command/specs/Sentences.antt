@@ -23,6 +23,9 @@ memory_sentence = codes "the system gave no more memory"
 abbrev pub no_failure_sentence : List ℕ
 no_failure_sentence = codes "try other seeds with --seed, or more of them with --tries"
 
+abbrev pub same_file_sentence : List ℕ
+same_file_sentence = codes "the two names lead to one file: give each output a file of its own"
+
 -- of a line of a recording's head
 abbrev pub head_sentence : ℕ → List ℕ
 head_sentence line =

@@ -3,7 +3,7 @@ ghost use Rattle.std.specs.Prelude.{◌≡◌, ◌++◌, ℕ, List, codes, decim
 ghost use Rattle.or_text.specs.Sentences.{sentence_text};
 ghost use Rattle.or_host.specs.HostState.{HostState};
 ghost use Rattle.or_command.specs.Said.{Said, SaidLine, OnlySays};
-ghost use Rattle.or_command.specs.Lines.{usage_lines, schedule_line, no_failure_line, tries_line};
+ghost use Rattle.or_command.specs.Lines.{usage_lines, schedule_line, no_failure_line, same_file_line, tries_line};
 ghost use Rattle.or_command.specs.Ends.{end_of, status_of, line_of, second_line_of, lines_of, failed_check};
 ghost use Rattle.or_command.specs.Sentences.{write_sentence};
 
@@ -67,6 +67,7 @@ fn refusal_status(refusal: Refusal<'_>) -> u8
         Refusal::Script { .. } => 10,
         Refusal::Symbols { .. } => 12,
         Refusal::NoFailure { .. } => 14,
+        Refusal::SameFile { .. } => 16,
     }
 }
 
@@ -172,6 +173,7 @@ fn say_refusal<H: Host>(host: &mut H, refusal: Refusal<'_>) -> Result<(), Failed
             ..
         } => { say_fault(host, b"or1k: symbols ", name, fault, b" ", place) }
         Refusal::NoFailure { tries } => say_no_failure(host, tries),
+        Refusal::SameFile { one, other } => say_same_file(host, one, other),
     }
 }
 
@@ -222,6 +224,17 @@ fn say_no_failure<H: Host>(host: &mut H, tries: u32) -> Result<(), Failed>
     let so_far = then_say(host, Ok(()), b"or1k: no failure in ");
     let so_far = then_number(host, so_far, tries as u64);
     then_say(host, so_far, b" tries\n")
+}
+
+// Says that two names lead to one file.
+fn say_same_file<H: Host>(host: &mut H, one: &str, other: &str) -> Result<(), Failed>
+    ensures { Said result (same_file_line one.now other.now) (H.state host.old) (H.state host.new) }
+{
+    let so_far = then_say(host, Ok(()), b"or1k: same file ");
+    let so_far = then_say(host, so_far, one.as_bytes());
+    let so_far = then_say(host, so_far, b" ");
+    let so_far = then_say(host, so_far, other.as_bytes());
+    then_say(host, so_far, b"\n")
 }
 
 // Says why a recording is refused.

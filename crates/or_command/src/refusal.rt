@@ -163,6 +163,11 @@ pub enum Refusal<'a> {
     NoFailure {
         tries: u32,
     },
+    /// Two names of the command lead to one file, and it writes to one of them: status 16.
+    SameFile {
+        one: &'a str,
+        other: &'a str,
+    },
 }
 
 impl<'a> Refusal<'a> {
@@ -181,6 +186,9 @@ impl<'a> Refusal<'a> {
             Refusal::NoFailure { .. } => {
                 Sentence::plain("try other seeds with --seed, or more of them with --tries")
             }
+            Refusal::SameFile { .. } => Sentence::plain(
+                "the two names lead to one file: give each output a file of its own",
+            ),
         }
     }
 }

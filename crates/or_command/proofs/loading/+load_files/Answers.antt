@@ -1,4 +1,4 @@
-use Rattle.std.proofs.Common.{arith, rules, ◌≡◌, sym, ap, subst, ℕ, List, [], ◌∷◌, ◌++◌, length}
+use Rattle.std.proofs.Common.{arith, rules, ◌≡◌, sym, ap, subst, List, [], ◌∷◌, ◌++◌, length}
 use Rattle.std.proofs.lemmas.Grind.{common_steps}
 use Rattle.or_command.specs.Loads.{Load, load_of, loads_of, bytes_of, LoadsAll, LoadsSome}
 use Rattle.or_command.proofs.LoadsLemmas.{empty_list, none_loaded, first_stops, later_stops}
