@@ -18,8 +18,8 @@ or1k --version         prints the version
 
 Exit status: 0 success, 2 invalid command line, 3 faulty image, 4 refused recording, 5 a file could not be read, 6 an
 output could not be written, 7 out of memory, 8 a file is too long, 9 faulty source, 10 faulty script, 12 faulty symbols,
-13 an argument is no text, 14 no failure found (hunt), 15 a core failed (run --status). With any other status than 0 and 15
-two lines on standard error say why.
+13 an argument is no text, 14 no failure found (hunt), 15 a core failed (run --status), 16 an output and another
+name lead to one file. With any other status than 0 and 15 two lines on standard error say why.
 ";
 
 /// What is told of each command.

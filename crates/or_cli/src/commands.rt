@@ -14,6 +14,7 @@ ghost use Rattle.or_command_line.specs.Words.{IsFileName};
 ghost use Rattle.or_command_line.specs.Workloads.{FitsWorkload};
 ghost use Rattle.or_recorded.specs.Files.{names_of, AreNames};
 ghost use Rattle.or_command_line.specs.Settings.{FitsStay, FitsHunt, FitsEvery};
+ghost use Rattle.or_cli.specs.Names.{TopEnds, TopDecides};
 ghost use Rattle.or_cli.specs.Top.{threaded_command, lone_command, IsUsage, on_a_run, CommandEnds, IsComplete};
 
 use or_board::Gate;
@@ -24,6 +25,7 @@ use or_command_run::{bench, run, run_status, say_budgets};
 use or_command_source::{asm, dis, generate};
 use or_host::Host;
 use or_recorded::{Back, Debug, Names, Prof, Race, RecordedCommand, Replay, carry_out};
+use or_same_file::{find_same, refuse_same};
 use std::alloc::Global;
 use std::sync::Wait;
 use std::thread::Threads;
@@ -221,7 +223,7 @@ fn refuse_words<H: Host>(words: &[String], host: &mut H) -> u8
 }
 
 /// Does the command of a command line if it runs cores on threads, `run` or `bench`, and answers the status as `top` does. For
-/// this call every other command line is not valid. It waits.
+/// this call every other command line is not valid. It waits. Whether an output is another of its files too, `top` asks before.
 pub fn top_run<R: Threads + Wait + Sync, H: Host, G: Gate + Sync>(
     rt: &R,
     alloc: Global,
@@ -248,7 +250,7 @@ pub fn top_run<R: Threads + Wait + Sync, H: Host, G: Gate + Sync>(
 }
 
 /// Does the command of a command line if it needs one thread alone, and answers the status as `top` does. For this call every
-/// other command line is not valid. It always returns.
+/// other command line is not valid. It always returns. Whether an output is another of its files too, `top` asks before.
 pub fn top_alone<H: Host>(alloc: Global, words: &[String], host: &mut H) -> u8
     ensures usage { (result ≡ 2) ↔ (lone_command (texts words.now) ≡ None) }
     ensures usage_line { lone_command (texts words.now) ≡ None → IsUsage (texts words.now) (H.state host.old) (H.state host.new) }
@@ -281,12 +283,8 @@ pub fn top_alone<H: Host>(alloc: Global, words: &[String], host: &mut H) -> u8
     }
 }
 
-/// Does the command of a command line, and answers the status: 0 if all was done, 2 if the command line is not valid, 3 if the
-/// image has a fault, 4 if the recording is refused, 5 if a file was not read, 6 if an output was not written, 7 if memory ran
-/// out, 8 if a file is too long, 9 if the source has a fault, 10 if the script has one, 12 if the symbols that `prof` or
-/// `race --where` reads have one, 14 if no try of a hunt failed, 15 if all was done with `run --status` and a core failed. Of a status other than 0
-/// and 15 it says the line, and then a sentence for people.
-pub fn top<R: Threads + Wait + Sync, H: Host, G: Gate + Sync>(
+// Does the command of a command line whose outputs are files of their own.
+fn carry_out_words<R: Threads + Wait + Sync, H: Host, G: Gate + Sync>(
     rt: &R,
     alloc: Global,
     words: &[String],
@@ -301,5 +299,31 @@ pub fn top<R: Threads + Wait + Sync, H: Host, G: Gate + Sync>(
     match parse(words) {
         Some(Command::Run(_) | Command::Bench { .. }) => top_run(rt, alloc, words, host, gate),
         _ => top_alone(alloc, words, host),
+    }
+}
+
+/// Does the command of a command line, and answers the status: 0 if all was done, 2 if the command line is not valid, 3 if the
+/// image has a fault, 4 if the recording is refused, 5 if a file was not read, 6 if an output was not written, 7 if memory ran
+/// out, 8 if a file is too long, 9 if the source has a fault, 10 if the script has one, 12 if the symbols that `prof` or
+/// `race --where` reads have one, 14 if no try of a hunt failed, 15 if all was done with `run --status` and a core failed, 16 if an
+/// output and another of its names lead to one file. Of a status other than 0 and 15 it says the line, and then a sentence for people.
+pub fn top<R: Threads + Wait + Sync, H: Host, G: Gate + Sync>(
+    rt: &R,
+    alloc: Global,
+    words: &[String],
+    host: &mut H,
+    gate: &G,
+) -> u8
+    ensures usage { (result ≡ 2) ↔ (command_of (texts words.now) ≡ None) }
+    ensures usage_line { command_of (texts words.now) ≡ None → IsUsage (texts words.now) (H.state host.old) (H.state host.new) }
+    ensures command { IfSome (command_of (texts words.now)) (λ command. TopEnds command result (H.state host.old) (H.state host.new)) }
+    ensures complete { IfSome (command_of (texts words.now)) (λ command. TopDecides command result (H.state host.old) (H.state host.new)) }
+{
+    match parse(words) {
+        Some(command) => match find_same(&command, host) {
+            Some(pair) => refuse_same(host, &pair),
+            None => carry_out_words(rt, alloc, words, host, gate),
+        },
+        None => refuse_words(words, host),
     }
 }

@@ -3,7 +3,8 @@ ghost use Rattle.std.specs.Prelude.{◌≡◌, ◌↔◌, None, IfSome};
 ghost use Rattle.or_command_line.specs.Words.{texts};
 ghost use Rattle.or_command_line.specs.Command.{command_of};
 ghost use Rattle.or_about.specs.About.{asked_by, text_of, AboutAnswers};
-ghost use Rattle.or_cli.specs.Top.{IsUsage, CommandEnds, IsComplete};
+ghost use Rattle.or_cli.specs.Top.{IsUsage};
+ghost use Rattle.or_cli.specs.Names.{TopEnds, TopDecides};
 
 use crate::commands::top;
 use or_about::{Texts, answer, asked};
@@ -28,9 +29,9 @@ pub fn program<R: Threads + Wait + Sync, H: Host, G: Gate + Sync>(
     ensures usage_line { asked_by about.now (texts words.now) ≡ None → command_of (texts words.now) ≡ None
         → IsUsage (texts words.now) (H.state host.old) (H.state host.new) }
     ensures command { asked_by about.now (texts words.now) ≡ None
-        → IfSome (command_of (texts words.now)) (λ command. CommandEnds command result (H.state host.old) (H.state host.new)) }
+        → IfSome (command_of (texts words.now)) (λ command. TopEnds command result (H.state host.old) (H.state host.new)) }
     ensures complete { asked_by about.now (texts words.now) ≡ None
-        → IfSome (command_of (texts words.now)) (λ command. IsComplete command result (H.state host.old) (H.state host.new)) }
+        → IfSome (command_of (texts words.now)) (λ command. TopDecides command result (H.state host.old) (H.state host.new)) }
 {
     match asked(about, words) {
         Some(question) => answer(alloc, about, &question, host),

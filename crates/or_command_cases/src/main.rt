@@ -16,7 +16,7 @@ use std::process::ExitCode;
 use std::sync::Wait;
 use std::thread::Threads;
 
-const FILES: [&str; 13] = [
+const FILES: [&str; 14] = [
     "host.cases",
     "images.cases",
     "line.cases",
@@ -30,6 +30,7 @@ const FILES: [&str; 13] = [
     "messages.cases",
     "worked.cases",
     "hostile.cases",
+    "names.cases",
 ];
 
 // Does what the lines of a file say.

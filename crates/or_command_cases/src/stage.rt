@@ -47,6 +47,7 @@ impl Stage {
             "" | "#" => Ok(()),
             "case" => self.begin(rt, rest),
             "failing" => self.fail_at(rest),
+            "links" => self.link(rest),
             "or1k" => command(rt, self.alloc, &mut self.host, Call::Whole, rest),
             "status" => command(rt, self.alloc, &mut self.host, Call::Status, rest),
             "alone" => command(rt, self.alloc, &mut self.host, Call::Alone, rest),
@@ -69,6 +70,20 @@ impl Stage {
     fn fail_at(&mut self, number: &str) -> Result<(), CaseFault> {
         let call = read_number(number)? as u64;
         self.host = MemHost::new(self.alloc, vec![in self.alloc; call]?);
+        Ok(())
+    }
+
+    // A host without files, in which each two of these names lead to one file.
+    fn link(&mut self, names: &str) -> Result<(), CaseFault> {
+        let mut links = Vec::new(self.alloc);
+        let mut rest = names;
+        while let Some((one, others)) = rest.split_once(' ') {
+            let (other, behind) = others.split_once(' ').unwrap_or((others, ""));
+            let one = String::from_str(self.alloc, one)?;
+            links.push((one, String::from_str(self.alloc, other)?))?;
+            rest = behind;
+        }
+        self.host = MemHost::with_links(self.alloc, Vec::new(self.alloc), links);
         Ok(())
     }
 

@@ -1,12 +1,13 @@
 // Real files at their edges.
 use crate::Line;
 use Line::{Command, Full, Refused, Same};
+use std::fs::Files;
 use std::io::{BufWriter, Write};
 use std::{fs, io};
 
 // `/dev/full` opens, and no byte can be written to it. A read of `/proc/self/pagemap` fails if its length is no multiple of
 // eight, as the last one up to the limit of an input is: one byte, behind a mebibyte that was read.
-pub(crate) const EDGES: [Line; 22] = [
+pub(crate) const EDGES: [Line; 31] = [
     Refused("run . - s r --ram 1"),
     Refused("run hello.elf . s r --ram 1"),
     Refused("run hello.elf /proc/self/pagemap s r --ram 1"),
@@ -18,6 +19,17 @@ pub(crate) const EDGES: [Line; 22] = [
     Full("dis hello.elf"),
     Refused("asm hello/hello.s /dev/full"),
     Refused("gen 1 4 1000 hello"),
+    // names of one file
+    Refused("run hello.elf - ./hello.elf r --ram 1"),
+    Refused("run hello.elf - s hello/../hello.elf --ram 1"),
+    Refused("run hello.elf - linked.elf r --ram 1"),
+    Refused("run hello.elf - s hard.elf --ram 1"),
+    Refused("run hello.elf - new.sched .//new.sched --ram 1"),
+    Refused("run hello.elf - new.sched linked.sched --ram 1"),
+    Refused("asm hello/hello.s ./hello/hello.s"),
+    Refused("replay hello.elf - hello.sched ./hello.sched"),
+    // a device keeps nothing that could be overwritten
+    Command("run hello.elf - /dev/null /dev/./null --ram 1"),
     // 270004 words, which is more than a mebibyte, and as many turns of each core
     Command("asm long.s long.elf"),
     Command("run long.elf - s r --ram 2"),
@@ -57,4 +69,11 @@ pub(crate) fn write_labels(rt: &HostRuntime) -> io::Result<()> {
         write!(file, "f{label}:\nl.nop 0\n")?;
     }
     file.flush()
+}
+
+/// Makes a symbolic and a hard link to `hello.elf`, and a symbolic one to a file that is not there.
+pub(crate) fn make_links(rt: &HostRuntime) -> io::Result<()> {
+    rt.symlink("hello.elf", "linked.elf")?;
+    rt.hard_link("hello.elf", "hard.elf")?;
+    rt.symlink("new.sched", "linked.sched")
 }

@@ -1,11 +1,11 @@
 //! Runs the programs of `examples/`, and the workload, through the top call on real files. `data/` has the files of
 //! `examples/` that it reads, under the same names. Then it goes to the edges of real files: a directory, a full disk, a read that
-//! fails late, a long program. What it prints does not depend on the schedule.
+//! fails late, names of one file, a long program. What it prints does not depend on the schedule.
 #![tactic(auto)]
 
 mod edges;
 
-use edges::{EDGES, write_labels, write_long_source};
+use edges::{EDGES, make_links, write_labels, write_long_source};
 use or_cli::{FileHost, Host, OpenGate, top};
 use std::alloc::{AllocError, Global};
 use std::fs;
@@ -189,6 +189,9 @@ fn main(rt: HostRuntime) -> ExitCode {
         return ExitCode::from(status);
     }
     if write_long_source(&rt).is_err() || write_labels(&rt).is_err() {
+        return ExitCode::from(6);
+    }
+    if make_links(&rt).is_err() {
         return ExitCode::from(6);
     }
     ExitCode::from(make_all(&rt, &rt, &EDGES))
