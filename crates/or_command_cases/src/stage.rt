@@ -76,12 +76,16 @@ impl Stage {
     // A host without files, in which each two of these names lead to one file.
     fn link(&mut self, names: &str) -> Result<(), CaseFault> {
         let mut links = Vec::new(self.alloc);
-        let mut rest = names;
-        while let Some((one, others)) = rest.split_once(' ') {
-            let (other, behind) = others.split_once(' ').unwrap_or((others, ""));
-            let one = String::from_str(self.alloc, one)?;
-            links.push((one, String::from_str(self.alloc, other)?))?;
-            rest = behind;
+        let mut first = None;
+        for name in names.split(' ') {
+            first = match first {
+                None => Some(name),
+                Some(one) => {
+                    let one = String::from_str(self.alloc, one)?;
+                    links.push((one, String::from_str(self.alloc, name)?))?;
+                    None
+                }
+            };
         }
         self.host = MemHost::with_links(self.alloc, Vec::new(self.alloc), links);
         Ok(())
