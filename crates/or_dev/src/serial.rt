@@ -58,9 +58,7 @@ impl Uart {
     pub fn open(alloc: Global, input: Vec<u8>, room: usize) -> Result<Uart, NoMemory>
         ensures { IfOk result (λ uart. uart ≡ record { state = reset_uart input.items; spare = room }) }
     {
-        let Ok(console) = Vec::with_capacity(alloc, room) else {
-            return Err(NoMemory);
-        };
+        let console = Vec::with_capacity(alloc, room)?;
         Ok(Uart {
             input,
             taken: 0,
@@ -81,12 +79,8 @@ impl Uart {
     pub fn copy(&self, alloc: Global) -> Result<Uart, NoMemory>
         ensures { IfOk result (λ uart. uart ≡ self.now) }
     {
-        let Ok(input) = Vec::from_slice(alloc, &self.input[self.taken..]) else {
-            return Err(NoMemory);
-        };
-        let Ok(console) = copy_with_room(alloc, &self.console, self.spare) else {
-            return Err(NoMemory);
-        };
+        let input = Vec::from_slice(alloc, &self.input[self.taken..])?;
+        let console = copy_with_room(alloc, &self.console, self.spare)?;
         Ok(Uart {
             input,
             taken: 0,
@@ -341,11 +335,7 @@ fn copy_with_room(alloc: Global, console: &[u8], spare: usize) -> Result<Vec<u8>
     ensures bytes { IfOk result (λ copy. copy.items ≡ console.now) }
     ensures room { IfOk result (λ copy. length console.now + spare ≤ vec_capacity copy) }
 {
-    let Ok(mut copy) = Vec::with_capacity(alloc, console.len() + spare) else {
-        return Err(NoMemory);
-    };
-    match copy.extend_from_slice(console) {
-        Ok(()) => Ok(copy),
-        Err(_) => Err(NoMemory),
-    }
+    let mut copy = Vec::with_capacity(alloc, console.len() + spare)?;
+    copy.extend_from_slice(console)?;
+    Ok(copy)
 }

@@ -3,7 +3,7 @@
 
 ghost use Rattle.std.specs.Prelude.{◌≡◌, ◌≤◌, ◌<◌, ◌+◌, ◌*◌, ◌/◌, ◌++◌, [], codes, length, OnOk, OnErr, vec_capacity, vec_len};
 ghost use Rattle.std.specs.List.{flat_map};
-ghost use Rattle.or_words.specs.declared.limits.TheConstants.{SOURCE_LIMIT};
+ghost use Rattle.or_words.specs.declared.limits.TheConstants.{MOST_CORES, MOST_ROUNDS, SOURCE_LIMIT};
 ghost use Rattle.or_gen.specs.Workload.{workload, lines_text, number_text, upper_text, lower_text, delay_text, delays_text, next_number, set_up_lines, wait_lines, count_lines, print_lines, end_lines};
 
 use or_text::{append_decimal, append_hexadecimal};
@@ -14,9 +14,9 @@ use std::alloc::AllocError;
 /// after `NoMemory`, which comes only where it lacks the capacity for the whole source.
 pub fn program(seed: u32, cores: u32, rounds: u32, out: &mut Vec<u8>) -> Result<(), NoMemory>
     requires some_core { 1 ≤ cores }
-    requires few_cores { cores ≤ 8 }
+    requires few_cores { cores ≤ MOST_CORES }
     requires some_round { 1 ≤ rounds }
-    requires few_rounds { rounds ≤ 100000 }
+    requires few_rounds { rounds ≤ MOST_ROUNDS }
     requires empty { out.old.items ≡ [] }
     ensures text { OnOk result (out.new.items ≡ workload seed cores rounds) }
     ensures no_memory { OnErr result (out.new.items ≡ []) }
@@ -36,8 +36,8 @@ pub fn program(seed: u32, cores: u32, rounds: u32, out: &mut Vec<u8>) -> Result<
 
 #[tactic(auto, unfolding(crate::specs::Workload::workload))]
 fn append_workload(seed: u32, cores: u32, rounds: u32, out: &mut Vec<u8>) -> Result<(), AllocError>
-    requires cores { cores ≤ 8 }
-    requires rounds { rounds ≤ 100000 }
+    requires cores { cores ≤ MOST_CORES }
+    requires rounds { rounds ≤ MOST_ROUNDS }
     requires empty { out.old.items ≡ [] }
     ensures text { OnOk result (out.new.items ≡ workload seed cores rounds) }
     ensures full { OnErr result (vec_capacity out.old < length (workload seed cores rounds)) }

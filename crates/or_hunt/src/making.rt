@@ -58,10 +58,10 @@ fn advance(board: &mut Board, core: u8, made: &mut Made) -> Result<bool, NoMemor
     ensures stopped { IfOk result (λ moved. moved ≡ false → (board.new.cores ≡ board.old.cores) × (RunsAt board.old.cores core → ⊥)) }
 {
     match board.turn(core) {
-        Ok(()) => match add(core, board, made) {
-            Ok(()) => Ok(true),
-            Err(_) => Err(NoMemory),
-        },
+        Ok(()) => {
+            add(core, board, made)?;
+            Ok(true)
+        }
         Err(_) => Ok(false),
     }
 }

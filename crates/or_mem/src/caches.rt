@@ -1,6 +1,7 @@
 //! The cores' data caches, side by side.
 
 ghost use Rattle.std.specs.Prelude.{◌≡◌, ◌≢◌, ℕ, ◌<◌, ◌≤◌, ◌%◌, Some, length, replicate, IfOk, slice_set};
+ghost use Rattle.or_words.specs.declared.limits.TheConstants.{MOST_CORES};
 ghost use Rattle.or_parts.specs.Memory.{bytes_of};
 ghost use Rattle.or_parts.specs.Lines.{index_of, line_of, no_lines, line_at_index, held_word, line_filled, line_dropped};
 ghost use Rattle.or_mem.specs.Caches.{cache_of, line_updated, address_and_bytes};
@@ -28,23 +29,19 @@ impl Model for DCaches {
 impl DCaches {
     /// Caches for so many cores, 1 to 8, that hold no line. It fails only where memory runs out.
     pub fn open(alloc: Global, cores: u32) -> Result<DCaches, NoMemory>
-        requires { cores ≤ 8 }
+        requires { cores ≤ MOST_CORES }
         ensures { IfOk result (λ caches. caches ≡ replicate cores no_lines) }
     {
-        match vec![in alloc; DataCache::empty(); cores as usize] {
-            Ok(caches) => Ok(DCaches { caches }),
-            Err(_) => Err(NoMemory),
-        }
+        let caches = vec![in alloc; DataCache::empty(); cores as usize]?;
+        Ok(DCaches { caches })
     }
 
     /// A copy of all lines. It fails only where memory runs out.
     pub fn copy(&self, alloc: Global) -> Result<DCaches, NoMemory>
         ensures { IfOk result (λ caches. caches ≡ self.now) }
     {
-        match Vec::from_slice(alloc, &self.caches) {
-            Ok(caches) => Ok(DCaches { caches }),
-            Err(_) => Err(NoMemory),
-        }
+        let caches = Vec::from_slice(alloc, &self.caches)?;
+        Ok(DCaches { caches })
     }
 
     /// The word at an address, None exactly where the core does not hold its line.

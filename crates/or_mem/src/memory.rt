@@ -38,10 +38,8 @@ impl Ram {
         requires { mib ≤ MOST_RAM }
         ensures { IfOk result (λ ram. ram ≡ record { bytes = replicate (mib * MIB) 0; reads = 0 }) }
     {
-        match vec![in alloc; 0; mib as usize * MIB as usize] {
-            Ok(bytes) => Ok(Ram { bytes, reads: 0 }),
-            Err(_) => Err(NoMemory),
-        }
+        let bytes = vec![in alloc; 0; mib as usize * MIB as usize]?;
+        Ok(Ram { bytes, reads: 0 })
     }
 
     /// The size in bytes, whole MiB, at most 256 of them.
@@ -128,13 +126,11 @@ impl Ram {
         ensures counted { self.new ≡ read_once self.old }
     {
         self.reads = self.reads.saturating_add(1);
-        match Vec::from_slice(alloc, &self.bytes) {
-            Ok(bytes) => Ok(Ram {
-                bytes,
-                reads: self.reads,
-            }),
-            Err(_) => Err(NoMemory),
-        }
+        let bytes = Vec::from_slice(alloc, &self.bytes)?;
+        Ok(Ram {
+            bytes,
+            reads: self.reads,
+        })
     }
 }
 

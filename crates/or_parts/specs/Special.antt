@@ -2,7 +2,8 @@
 use Rattle.std.specs.Prelude.{ℕ, ◌-◌, ◌<◌, Bool, ◌==◌, ◌&&◌, ◌||◌, nat_le, if◌then◌else◌, List, Option, slice_index, slice_set, replicate, bit_or}
 use Rattle.or_parts.specs.declared.SprRoute.{SprRoute}
 use Rattle.or_parts.specs.declared.SprRoute.TheVariants.{Own, General, DataMatch, DataTranslate, InsnMatch, InsnTranslate, DataDrop, InsnDrop, TickMode, TickCount, PicMask, PicStatus, Nothing}
-use Rattle.or_parts.specs.declared.registers.TheConstants.{VR, UPR, CPUCFGR, DMMUCFGR, IMMUCFGR, DCCFGR, ICCFGR, NPC, SR, PPC, EPCR0, EEAR0, ESR0, COREID, NUMCORES, GPR0, GPR31, GPR32, GPR63, DTLBW0MR0, DTLBW0MR63, DTLBW0TR0, DTLBW0TR63, ITLBW0MR0, ITLBW0MR63, ITLBW0TR0, ITLBW0TR63, DCBFR, DCBIR, ICBIR, MACLO, MACHI, PICMR, PICSR, TTMR, TTCR}
+use Rattle.or_words.specs.declared.cache_registers.TheConstants.{DCBFR, DCBIR}
+use Rattle.or_parts.specs.declared.registers.TheConstants.{VR, UPR, CPUCFGR, DMMUCFGR, IMMUCFGR, DCCFGR, ICCFGR, NPC, SR, PPC, EPCR0, EEAR0, ESR0, COREID, NUMCORES, GPR0, GPR31, GPR32, GPR63, DTLBW0MR0, DTLBW0MR63, DTLBW0TR0, DTLBW0TR63, ITLBW0MR0, ITLBW0MR63, ITLBW0TR0, ITLBW0TR63, ICBIR, MACLO, MACHI, PICMR, PICSR, TTMR, TTCR}
 use Rattle.or_parts.specs.declared.status.TheConstants.{SM, FO}
 use Rattle.or_parts.specs.Exceptions.{next_pc, kept_status}
 

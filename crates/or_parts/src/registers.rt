@@ -1,5 +1,7 @@
 //! The numbers of the special registers (OpenRISC 1000 Architecture Manual, section 4.3).
 
+pub use or_words::cache_registers::{DCBFR, DCBIR};
+
 /// Version.
 pub const VR: u32 = 0;
 /// Which units are present.
@@ -54,10 +56,6 @@ pub const ITLBW0MR63: u32 = 4671;
 pub const ITLBW0TR0: u32 = 4736;
 /// The instruction MMU's last translate register.
 pub const ITLBW0TR63: u32 = 4799;
-/// Data cache block flush.
-pub const DCBFR: u32 = 6146;
-/// Data cache block invalidate.
-pub const DCBIR: u32 = 6147;
 /// Instruction cache block invalidate.
 pub const ICBIR: u32 = 8194;
 /// The accumulator's low word.

@@ -2,6 +2,7 @@
 use Rattle.std.specs.Prelude.{◌≡◌, ℕ, ◌-◌, ◌≤◌, ◌<◌, ◌^◌, List, [], ◌∷◌, ◌++◌, Option, Some, None, min, codes, decimal, take, Bool, true, false}
 use Rattle.std.proofs.Common.{inl, inr}
 use Rattle.std.proofs.Props.{props}
+use Rattle.or_words.specs.declared.limits.TheConstants.{MOST_CORES}
 use Rattle.or_sched.specs.declared.recording.Mark.{Mark}
 use Rattle.or_sched.specs.declared.places.Limits.{Limits}
 use Rattle.or_sched.specs.declared.places.Block.{Block}
@@ -105,7 +106,7 @@ StepSound limits (EndsMark mark next) = IsSound limits next
 
 -- limits that a config gives
 pub record AreLimits (limits : Limits) : Type 0 where
-  pub cores : (1 ≤ limits.cores) × (limits.cores ≤ 8)
+  pub cores : (1 ≤ limits.cores) × (limits.cores ≤ MOST_CORES)
   pub turns : (1 ≤ limits.turns) × (limits.turns < 2 ^ 32)
   pub block : 1 ≤ limits.block
 

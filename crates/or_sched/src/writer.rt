@@ -1,5 +1,6 @@
 // The text of a recording.
 ghost use Rattle.std.specs.Prelude.{◌≡◌, ◌≤◌, ◌<◌, ◌*◌, ◌+◌, ◌++◌, [], ◌∷◌, All, List, ℕ, length, OnOk, OnErr, IfOk, vec_capacity, vec_len};
+ghost use Rattle.or_words.specs.declared.limits.TheConstants.{MOST_CORES};
 ghost use Rattle.or_words.specs.Settings.{Fits};
 ghost use Rattle.or_sched.specs.RecText.{rec_text2};
 ghost use Rattle.or_sched.specs.HeadText.{head_text2, config_line, form_text, digest_line};
@@ -44,7 +45,7 @@ fn append_recording(
     out: &mut Vec<u8>,
 ) -> Result<(), AllocError>
     requires marks { BLOCK * length marks.now ≤ length turns.now }
-    requires cores { All (λ turn. turn < 8) turns.now }
+    requires cores { All (λ turn. turn < MOST_CORES) turns.now }
     ensures text { OnOk result (out.new.items ≡ out.old.items ++ rec_text2 head.now turns.now marks.now) }
     ensures full { OnErr result (vec_capacity out.old < vec_len out.old + length (rec_text2 head.now turns.now marks.now)) }
     ensures capacity { vec_capacity out.old ≤ vec_capacity out.new }
@@ -109,7 +110,7 @@ fn append_blocks(
     out: &mut Vec<u8>,
 ) -> Result<(), AllocError>
     requires marks { block * length marks.now ≤ length turns.now }
-    requires cores { All (λ turn. turn < 8) turns.now }
+    requires cores { All (λ turn. turn < MOST_CORES) turns.now }
     ensures text { OnOk result (out.new.items ≡ out.old.items ++ blocks_text block marks.now turns.now) }
     ensures full { OnErr result (vec_capacity out.old < vec_len out.old + length (blocks_text block marks.now turns.now)) }
     ensures capacity { vec_capacity out.old ≤ vec_capacity out.new }
@@ -140,7 +141,7 @@ fn append_mark(mark: &Mark, out: &mut Vec<u8>) -> Result<(), AllocError>
 
 // Appends the run lines of a block.
 fn append_block(turns: &[u8], out: &mut Vec<u8>) -> Result<(), AllocError>
-    requires { All (λ turn. turn < 8) turns.now }
+    requires { All (λ turn. turn < MOST_CORES) turns.now }
     ensures text { OnOk result (out.new.items ≡ out.old.items ++ block_text turns.now) }
     ensures full { OnErr result (vec_capacity out.old < vec_len out.old + length (block_text turns.now)) }
     ensures capacity { vec_capacity out.old ≤ vec_capacity out.new }
@@ -169,7 +170,7 @@ fn append_block(turns: &[u8], out: &mut Vec<u8>) -> Result<(), AllocError>
 
 // Appends a run, behind a line feed where its line is full, and answers how many more have room.
 fn append_run(core: u8, count: u64, left: u8, out: &mut Vec<u8>) -> Result<u8, AllocError>
-    requires core { core < 8 }
+    requires core { core < MOST_CORES }
     requires left { left ≤ 16 }
     // Behind it and what follows stands what stood behind the old bytes.
     ensures text { IfOk result (λ room. (others : List (ℕ × ℕ)) →
@@ -190,7 +191,7 @@ fn append_run(core: u8, count: u64, left: u8, out: &mut Vec<u8>) -> Result<u8, A
 
 // Appends the letter, and the count where it isn't 1.
 fn append_run_text(core: u8, count: u64, out: &mut Vec<u8>) -> Result<(), AllocError>
-    requires { core < 8 }
+    requires { core < MOST_CORES }
     ensures text { OnOk result (out.new.items ≡ out.old.items ++ run_text (core, count)) }
     ensures full { OnErr result (vec_capacity out.old < vec_len out.old + length (run_text (core, count))) }
     ensures capacity { vec_capacity out.old ≤ vec_capacity out.new }

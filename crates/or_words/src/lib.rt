@@ -8,7 +8,7 @@ ghost use Rattle.or_words.specs.Kind.{shifted, extended, compares, accumulated};
 pub mod cache_registers;
 pub mod limits;
 
-use std::alloc::AllocError;
+use std::alloc::{AllocError, AllocFailed};
 
 /// Memory ran out.
 #[derive(Clone, Copy, Debug, PartialEq, Eq)]
@@ -16,6 +16,15 @@ pub struct NoMemory;
 
 impl From<AllocError> for NoMemory {
     fn from(_error: AllocError) -> NoMemory {
+        NoMemory
+    }
+}
+
+impl<T> From<AllocFailed<T>> for NoMemory
+where
+    T: Drop,
+{
+    fn from(_refused: AllocFailed<T>) -> NoMemory {
         NoMemory
     }
 }
