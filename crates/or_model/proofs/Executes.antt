@@ -12,7 +12,7 @@ use Rattle.or_isa.specs.declared.ArithmeticKind.TheVariants as arithmetic
 use Rattle.or_parts.specs.declared.Cause.{Cause}
 use Rattle.or_parts.specs.declared.Cause.TheVariants.{Range}
 use Rattle.or_parts.specs.declared.SprRoute.{SprRoute}
-use Rattle.or_parts.specs.declared.SprRoute.TheVariants.{Own, General, DataMatch, DataTranslate, InsnMatch, InsnTranslate, DataDrop, InsnDrop, TickMode, TickCount, PicMask, PicStatus, Nothing}
+use Rattle.or_parts.specs.declared.SprRoute.TheVariants.{Own, General}
 use Rattle.or_parts.specs.declared.registers.TheConstants.{GPR32}
 use Rattle.or_parts.specs.Exceptions.{kept_status}
 use Rattle.or_parts.specs.Special.{SpecialRegisters, own_written, spr_route}
@@ -86,22 +86,6 @@ put_with_carry-counts : (core : Core) (d v : ℕ) (cy : Bool) → SameCounts cor
 unfolding put_with_carry
 put_with_carry-counts core d v cy = SameCounts-trans (with_status-counts core _) (put-counts _ d v)
 
-put_sum-counts : (core : Core) (d a b : ℕ) (c : Bool) → IfOk (put_sum core d a b c) (SameCounts core)
-unfolding put_sum
-put_sum-counts core d a b c = put_with_flags-counts core d _ _ _
-
-put_difference-counts : (core : Core) (d a b : ℕ) → IfOk (put_difference core d a b) (SameCounts core)
-unfolding put_difference
-put_difference-counts core d a b = put_with_flags-counts core d _ _ _
-
-put_product-counts : (core : Core) (d a b : ℕ) → IfOk (put_product core d a b) (SameCounts core)
-unfolding put_product
-put_product-counts core d a b = put_with_overflow-counts core d _ _
-
-put_quotient-counts : (core : Core) (d a b : ℕ) → IfOk (put_quotient core d a b) (SameCounts core)
-unfolding put_quotient
-put_quotient-counts core d a b = put_with_overflow-counts core d _ _
-
 put_shifted-counts : (core : Core) (d : ℕ) (kind : ShiftKind) (a n : ℕ) → SameCounts core (put_shifted core d kind a n)
 unfolding put_shifted
 put_shifted-counts core d kind a n = put-counts core d _
@@ -117,18 +101,6 @@ put_lowest_one-counts core d a = put-counts core d _
 put_highest_one-counts : (core : Core) (d a : ℕ) → SameCounts core (put_highest_one core d a)
 unfolding put_highest_one
 put_highest_one-counts core d a = put-counts core d _
-
-put_chosen-counts : (core : Core) (d a b : ℕ) → SameCounts core (put_chosen core d a b)
-unfolding put_chosen
-put_chosen-counts core d a b = put-counts core d _
-
-put_unsigned_quotient-counts : (core : Core) (d a b : ℕ) → SameCounts core (put_unsigned_quotient core d a b)
-unfolding put_unsigned_quotient
-put_unsigned_quotient-counts core d a b = put_with_carry-counts core d _ _
-
-put_unsigned_product-counts : (core : Core) (d a b : ℕ) → SameCounts core (put_unsigned_product core d a b)
-unfolding put_unsigned_product
-put_unsigned_product-counts core d a b = put_with_carry-counts core d _ _
 
 put_comparison-counts : (core : Core) (code : CompareCode) (a b : ℕ) → SameCounts core (put_comparison core code a b)
 unfolding put_comparison put_flag
@@ -201,35 +173,19 @@ special_written_by-counts core n v Own = record {
   };
 }
 special_written_by-counts core n v (General r) = set_register-counts core r v
-special_written_by-counts core n v (DataMatch set) = record { steps = refl; settings = record { number = refl; cores = refl; budget = refl; latched = refl } }
-special_written_by-counts core n v (DataTranslate set) = record { steps = refl; settings = record { number = refl; cores = refl; budget = refl; latched = refl } }
-special_written_by-counts core n v (InsnMatch set) = record { steps = refl; settings = record { number = refl; cores = refl; budget = refl; latched = refl } }
-special_written_by-counts core n v (InsnTranslate set) = record { steps = refl; settings = record { number = refl; cores = refl; budget = refl; latched = refl } }
-special_written_by-counts core n v DataDrop = record { steps = refl; settings = record { number = refl; cores = refl; budget = refl; latched = refl } }
-special_written_by-counts core n v InsnDrop = record { steps = refl; settings = record { number = refl; cores = refl; budget = refl; latched = refl } }
-special_written_by-counts core n v TickMode = record { steps = refl; settings = record { number = refl; cores = refl; budget = refl; latched = refl } }
-special_written_by-counts core n v TickCount = record { steps = refl; settings = record { number = refl; cores = refl; budget = refl; latched = refl } }
-special_written_by-counts core n v PicMask = record { steps = refl; settings = record { number = refl; cores = refl; budget = refl; latched = refl } }
-special_written_by-counts core n v PicStatus = record { steps = refl; settings = record { number = refl; cores = refl; budget = refl; latched = refl } }
-special_written_by-counts core n v Nothing = record { steps = refl; settings = record { number = refl; cores = refl; budget = refl; latched = refl } }
+special_written_by-counts core n v _ = record { steps = refl; settings = record { number = refl; cores = refl; budget = refl; latched = refl } }
 
 special_written-counts : (core : Core) (n v : ℕ) → SameCounts core (special_written core n v)
 unfolding special_written
 special_written-counts core n v = special_written_by-counts core n v (spr_route n)
 
+ruleset forms = (put_with_flags-counts, put_with_overflow-counts, put_with_carry-counts, put-counts)
+
+-- each operation of the group writes its result in one of these forms; with a clause for one of them the other stands for each of the rest
 put_arithmetic-counts : (core : Core) (kind : ArithmeticKind) (d a b : ℕ) → IfOk (put_arithmetic core kind d a b) (SameCounts core)
-unfolding put_arithmetic
-put_arithmetic-counts core arithmetic.Add d a b = put_sum-counts core _ _ _ _
-put_arithmetic-counts core arithmetic.AddWithCarry d a b = put_sum-counts core _ _ _ _
-put_arithmetic-counts core arithmetic.Subtract d a b = put_difference-counts core _ _ _
-put_arithmetic-counts core arithmetic.And d a b = put-counts core _ _
-put_arithmetic-counts core arithmetic.Or d a b = put-counts core _ _
-put_arithmetic-counts core arithmetic.Xor d a b = put-counts core _ _
-put_arithmetic-counts core arithmetic.Choose d a b = put_chosen-counts core _ _ _
-put_arithmetic-counts core arithmetic.Multiply d a b = put_product-counts core _ _ _
-put_arithmetic-counts core arithmetic.Divide d a b = put_quotient-counts core _ _ _
-put_arithmetic-counts core arithmetic.DivideUnsigned d a b = put_unsigned_quotient-counts core _ _ _
-put_arithmetic-counts core arithmetic.MultiplyUnsigned d a b = put_unsigned_product-counts core _ _ _
+unfolding put_arithmetic put_sum put_difference put_product put_quotient put_chosen put_unsigned_quotient put_unsigned_product
+put_arithmetic-counts core arithmetic.Add d a b = search forms
+put_arithmetic-counts core _ d a b = search forms
 
 -- whatever an instruction makes of a core
 pub executed-counts : (insn : Insn) (core : Core) → IfOk (executed insn core) (SameCounts core)

@@ -1,5 +1,5 @@
 -- A private step reads no world and changes none.
-use Rattle.std.proofs.Common.{◌≡◌, ℕ, Bool, true, false, cond, refl, ap}
+use Rattle.std.proofs.Common.{◌≡◌, ℕ, Bool, true, false, cond, refl}
 use Rattle.std.specs.Prelude.{Option, Some, None, not}
 use Rattle.or_isa.specs.declared.Insn.{Insn}
 use Rattle.or_isa.specs.Decode.{decode_of}

@@ -1,6 +1,6 @@
 -- A step of a core adds one to its steps, keeps its settings, and stays within its budget.
-use Rattle.std.proofs.Common.{◌≡◌, ℕ, ◌+◌, ◌<◌, ◌≤◌, Bool, true, false, cond, refl, ap, arith, sym, subst, ◌∙◌}
-use Rattle.std.specs.Prelude.{List, Option, Some, None, Result, Ok, Err, IfOk, ◌==◌, is_none}
+use Rattle.std.proofs.Common.{◌≡◌, ℕ, ◌+◌, ◌<◌, Bool, true, false, cond, refl, ap, arith, ◌∙◌}
+use Rattle.std.specs.Prelude.{List, Option, Some, None, Result, Ok, Err, IfOk, ◌==◌}
 use Rattle.std.proofs.lemmas.Bool.Decides.{nat_tests}
 use Rattle.or_isa.specs.declared.Insn.{Insn}
 use Rattle.or_isa.specs.Decode.{decode_of}
@@ -17,10 +17,10 @@ use Rattle.or_model.specs.World.{World}
 use Rattle.or_model.specs.Bus.{Answer, fetch}
 use Rattle.or_model.specs.Routes.{fetch_route, cached_instruction}
 use Rattle.or_model.specs.Execute.{executed}
-use Rattle.or_model.specs.DataAccess.{State, Outcome}
+use Rattle.or_model.specs.DataAccess.{Outcome}
 use Rattle.or_model.specs.Step.{stop_after, with_step_counted, retired, outcome, completed, is_misplaced, spr_number, step_off_bus, outcome_on_bus, executed_on_bus, completed_on_bus, step_on_bus, step_by_insn, step_by_word, due_interrupt, with_line, step_by_fetch, step_unheld, step_by_held, step_by_route, step_by_interrupt, step}
 use Rattle.or_model.specs.Counts.{SameSettings, SameCounts, IsWithinBudget}
-use Rattle.or_model.proofs.Executes.{SameSettings-trans, SameCounts-trans, SameCounts-refl, exception_entry-counts, executed-counts}
+use Rattle.or_model.proofs.Executes.{SameSettings-trans, SameCounts-refl, exception_entry-counts, executed-counts}
 use Rattle.or_model.proofs.Accesses.{KeepsCounts, executed_on_bus-counts}
 
 -- one step was made
