@@ -71,22 +71,6 @@ put_with_carry-control : (core : Core) (d v : ℕ) (cy : Bool) → SameControl c
 unfolding put_with_carry
 put_with_carry-control core d v cy = SameControl-trans (with_status-control core CY cy refl refl) (put-control _ d v)
 
-put_sum-control : (core : Core) (d a b : ℕ) (c : Bool) → IfOk (put_sum core d a b c) (SameControl core)
-unfolding put_sum
-put_sum-control core d a b c = put_with_flags-control core d _ _ _
-
-put_difference-control : (core : Core) (d a b : ℕ) → IfOk (put_difference core d a b) (SameControl core)
-unfolding put_difference
-put_difference-control core d a b = put_with_flags-control core d _ _ _
-
-put_product-control : (core : Core) (d a b : ℕ) → IfOk (put_product core d a b) (SameControl core)
-unfolding put_product
-put_product-control core d a b = put_with_overflow-control core d _ _
-
-put_quotient-control : (core : Core) (d a b : ℕ) → IfOk (put_quotient core d a b) (SameControl core)
-unfolding put_quotient
-put_quotient-control core d a b = put_with_overflow-control core d _ _
-
 put_shifted-control : (core : Core) (d : ℕ) (kind : ShiftKind) (a n : ℕ) → SameControl core (put_shifted core d kind a n)
 unfolding put_shifted
 put_shifted-control core d kind a n = put-control core d _
@@ -102,18 +86,6 @@ put_lowest_one-control core d a = put-control core d _
 put_highest_one-control : (core : Core) (d a : ℕ) → SameControl core (put_highest_one core d a)
 unfolding put_highest_one
 put_highest_one-control core d a = put-control core d _
-
-put_chosen-control : (core : Core) (d a b : ℕ) → SameControl core (put_chosen core d a b)
-unfolding put_chosen
-put_chosen-control core d a b = put-control core d _
-
-put_unsigned_quotient-control : (core : Core) (d a b : ℕ) → SameControl core (put_unsigned_quotient core d a b)
-unfolding put_unsigned_quotient
-put_unsigned_quotient-control core d a b = put_with_carry-control core d _ _
-
-put_unsigned_product-control : (core : Core) (d a b : ℕ) → SameControl core (put_unsigned_product core d a b)
-unfolding put_unsigned_product
-put_unsigned_product-control core d a b = put_with_carry-control core d _ _
 
 put_comparison-control : (core : Core) (code : CompareCode) (a b : ℕ) → SameControl core (put_comparison core code a b)
 unfolding put_comparison put_flag
@@ -155,19 +127,13 @@ branched_on-control : (core : Core) (on : Bool) (n : ℤ) → SameControl core (
 unfolding branched_on
 branched_on-control core on n = branched_where-control core _ n
 
+ruleset forms = (put_with_flags-control, put_with_overflow-control, put_with_carry-control, put-control)
+
+-- each operation of the group writes its result in one of these forms; with a clause for one of them the other stands for each of the rest
 put_arithmetic-control : (core : Core) (kind : ArithmeticKind) (d a b : ℕ) → IfOk (put_arithmetic core kind d a b) (SameControl core)
-unfolding put_arithmetic
-put_arithmetic-control core arithmetic.Add d a b = put_sum-control core d a b false
-put_arithmetic-control core arithmetic.AddWithCarry d a b = put_sum-control core d a b _
-put_arithmetic-control core arithmetic.Subtract d a b = put_difference-control core d a b
-put_arithmetic-control core arithmetic.And d a b = put-control core d _
-put_arithmetic-control core arithmetic.Or d a b = put-control core d _
-put_arithmetic-control core arithmetic.Xor d a b = put-control core d _
-put_arithmetic-control core arithmetic.Choose d a b = put_chosen-control core d a b
-put_arithmetic-control core arithmetic.Multiply d a b = put_product-control core d a b
-put_arithmetic-control core arithmetic.Divide d a b = put_quotient-control core d a b
-put_arithmetic-control core arithmetic.DivideUnsigned d a b = put_unsigned_quotient-control core d a b
-put_arithmetic-control core arithmetic.MultiplyUnsigned d a b = put_unsigned_product-control core d a b
+unfolding put_arithmetic put_sum put_difference put_product put_quotient put_chosen put_unsigned_quotient put_unsigned_product
+put_arithmetic-control core arithmetic.Add d a b = search forms
+put_arithmetic-control core _ d a b = search forms
 
 -- whatever a plain instruction makes of a core
 pub executed-control : (insn : Insn) (core : Core) → is_plain insn ≡ true → IfOk (executed insn core) (SameControl core)

@@ -2,6 +2,7 @@
 //! them all takes the place of tests before each.
 
 ghost use Rattle.std.specs.Prelude.{◌≡◌, ◌≢◌, ◌+◌, ◌-◌, ◌/◌, ◌<◌, ◌≤◌, true, None, Some, IfSome, IsTrue, IsFalse};
+ghost use Rattle.or_words.specs.declared.limits.TheConstants.{MOST_PRIVATE_STEPS};
 ghost use Rattle.or_model.specs.Step.{retired, is_private, private_step};
 ghost use Rattle.or_model.specs.Turn.{begun_within};
 ghost use Rattle.or_model.specs.Counts.{SameSettings};
@@ -20,7 +21,7 @@ const MODE: u32 = 0x4000_0000;
 /// The first steps of a turn, of a core that was quiet.
 #[derive(Clone, Copy)]
 pub(crate) struct Stretch {
-    /// How many steps were made, at most 256.
+    /// How many steps were made.
     pub(crate) made: u32,
     /// Whether the next one is known to ask the bus. An `Option` of what it executes would go through memory.
     pub(crate) asks: bool,
@@ -135,9 +136,9 @@ impl Core {
     #[tactic(auto, using(crate::proofs::Begins::begin_steps))]
     pub(crate) fn quiet_steps(&mut self) -> Stretch
         requires { self.old.stop ≡ None }
-        ensures left { begun_within 256 self.old ≡ begun_within (256 - result.made) self.new }
-        ensures few { result.made ≤ 256 }
-        ensures ahead { IsTrue result.asks → IsAhead self.new result.insn × (result.made < 256) }
+        ensures left { begun_within MOST_PRIVATE_STEPS self.old ≡ begun_within (MOST_PRIVATE_STEPS - result.made) self.new }
+        ensures few { result.made ≤ MOST_PRIVATE_STEPS }
+        ensures ahead { IsTrue result.asks → IsAhead self.new result.insn × (result.made < MOST_PRIVATE_STEPS) }
         ensures running { self.new.stop ≡ None }
         ensures settings { SameSettings self.old self.new }
     {

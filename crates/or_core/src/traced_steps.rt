@@ -1,7 +1,7 @@
 //! Turns that are traced step by step.
 
 ghost use Rattle.std.specs.Prelude.{◌≡◌, ◌+◌, ◌<◌, ◌≤◌, ◌%◌, ◌++◌, IfSome, if◌then◌else◌, None, IsTrue, [], true, length};
-ghost use Rattle.or_words.specs.declared.limits.TheConstants.{MOST_PRIVATE_STEPS};
+ghost use Rattle.or_words.specs.declared.limits.TheConstants.{MOST_PRIVATE_STEPS, MOST_TURN_STEPS};
 ghost use Rattle.std.specs.List.{All};
 ghost use Rattle.std.specs.Option.{option_or};
 ghost use Rattle.or_model.specs.World.{World};
@@ -21,7 +21,7 @@ use or_bus::Bus;
 use or_isa::needs_bus;
 use or_model::Route;
 use or_parts::Cause;
-use or_words::limits::MOST_PRIVATE_STEPS;
+use or_words::limits::{MOST_PRIVATE_STEPS, MOST_TURN_STEPS};
 
 /// A step of a core.
 #[derive(Clone, Copy, Debug, Default, PartialEq, Eq)]
@@ -120,7 +120,11 @@ impl Core {
 
     // The private steps of a turn; whether a step on the bus follows.
     #[tactic(auto, using(crate::proofs::Begins::begin_steps, crate::proofs::TracedSteps::private_steps), unfolding(or_model::specs::Turn::turn_begun))]
-    fn trace_private_steps(&mut self, bus: &mut Bus, steps: &mut ArrayVec<TracedStep, 256>) -> bool
+    fn trace_private_steps(
+        &mut self,
+        bus: &mut Bus,
+        steps: &mut ArrayVec<TracedStep, MOST_TURN_STEPS>,
+    ) -> bool
         requires running { self.old.stop ≡ None }
         requires known { self.old.number < bus.old.cores }
         requires spare { 0 < bus.old.spare }
@@ -130,8 +134,8 @@ impl Core {
         ensures settings { SameSettings self.old self.new }
         ensures steps { (world : World) → Represents bus.old world → steps.new.items ≡ steps_within MOST_PRIVATE_STEPS self.old world }
         ensures aligned { All IsAligned steps.new.items }
-        ensures room { IsTrue result → length steps.new.items < 256 }
-        ensures few { length steps.new.items ≤ 256 }
+        ensures room { IsTrue result → length steps.new.items < MOST_TURN_STEPS }
+        ensures few { length steps.new.items ≤ MOST_TURN_STEPS }
         ensures items { self.new.steps ≡ self.old.steps + length steps.new.items }
         ensures after { bus.new ≡ record bus.old { reads = bus.new.reads } }
         ensures tracks { (world : World) → Represents bus.old world → Represents bus.new world }
@@ -153,13 +157,13 @@ impl Core {
         &mut self,
         bus: &mut Bus,
         follows: bool,
-        steps: &mut ArrayVec<TracedStep, 256>,
+        steps: &mut ArrayVec<TracedStep, MOST_TURN_STEPS>,
     )
         requires running { IsTrue follows → self.old.stop ≡ None }
         requires known { self.old.number < bus.old.cores }
         requires spare { 0 < bus.old.spare }
-        requires room { IsTrue follows → length steps.old.items < 256 }
-        requires few { length steps.old.items ≤ 256 }
+        requires room { IsTrue follows → length steps.old.items < MOST_TURN_STEPS }
+        requires few { length steps.old.items ≤ MOST_TURN_STEPS }
         requires aligned { All IsAligned steps.old.items }
         ensures state { (world : World) → Represents bus.old world → IsState (if follows then step self.old world else record { core = self.old; world = world }) self.new bus.new }
         ensures settings { SameSettings self.old self.new }
@@ -168,7 +172,7 @@ impl Core {
         ensures bus { KeepsBus bus.old bus.new }
         ensures steps { (world : World) → Represents bus.old world → steps.new.items ≡ steps.old.items ++ bus_step (record { core = self.old; follows = follows }) world }
         ensures aligned { All IsAligned steps.new.items }
-        ensures few { length steps.new.items ≤ 256 }
+        ensures few { length steps.new.items ≤ MOST_TURN_STEPS }
         ensures items { length steps.new.items ≡ length steps.old.items + (if follows then 1 else 0) }
     {
         if follows {
@@ -178,7 +182,11 @@ impl Core {
 
     /// Makes one turn as `turn` does, and lists its 1 to 256 steps, in their order, in `steps`, which is empty before.
     #[tactic(auto, using(crate::proofs::Progress::turn_progress), unfolding(or_model::specs::Turn::turn, or_model::specs::Turn::turn_ended, crate::specs::Access::turn_access, crate::specs::TracedSteps::turn_steps))]
-    pub fn turn_by_steps(&mut self, bus: &mut Bus, steps: &mut ArrayVec<TracedStep, 256>)
+    pub fn turn_by_steps(
+        &mut self,
+        bus: &mut Bus,
+        steps: &mut ArrayVec<TracedStep, MOST_TURN_STEPS>,
+    )
         requires running { self.old.stop ≡ None }
         requires known { self.old.number < bus.old.cores }
         requires spare { 0 < bus.old.spare }

@@ -2,6 +2,7 @@
 
 ghost use Rattle.std.specs.Prelude.{◌≡◌, ◌<◌, ◌≤◌, ◌+◌, if◌then◌else◌, None, IsTrue, IsFalse, [], ◌++◌, length};
 ghost use Rattle.std.specs.Option.{option_or};
+ghost use Rattle.or_words.specs.declared.limits.TheConstants.{MOST_TURN_STEPS};
 ghost use Rattle.or_model.specs.World.{World};
 ghost use Rattle.or_model.specs.Step.{step};
 ghost use Rattle.or_model.specs.Turn.{turn_begun, turn_ended, turn};
@@ -17,7 +18,7 @@ use crate::state::Core;
 use arrayvec::ArrayVec;
 use or_bus::Bus;
 use or_isa::Insn;
-use or_words::limits::MOST_PRIVATE_STEPS;
+use or_words::limits::{MOST_PRIVATE_STEPS, MOST_TURN_STEPS};
 
 /// What the private steps of a turn have come to.
 #[derive(Clone, Copy)]
@@ -179,7 +180,7 @@ impl Core {
     /// Makes one turn as `turn` does, and lists in `trace`, which is empty before, the pc before each of
     /// its 1 to 256 steps, in their order.
     #[tactic(auto, using(crate::proofs::Progress::turn_progress), unfolding(or_model::specs::Turn::turn, crate::specs::Access::turn_access, or_model::specs::Trace::turn_trace))]
-    pub fn turn_traced(&mut self, bus: &mut Bus, trace: &mut ArrayVec<u32, 256>)
+    pub fn turn_traced(&mut self, bus: &mut Bus, trace: &mut ArrayVec<u32, MOST_TURN_STEPS>)
         requires running { self.old.stop ≡ None }
         requires known { self.old.number < bus.old.cores }
         requires spare { 0 < bus.old.spare }
@@ -191,7 +192,7 @@ impl Core {
         ensures bus { KeepsBus bus.old bus.new }
         ensures trace { trace.new.items ≡ turn_trace self.old }
         ensures items { self.new.steps ≡ self.old.steps + length trace.new.items }
-        ensures few { length trace.new.items ≤ 256 }
+        ensures few { length trace.new.items ≤ MOST_TURN_STEPS }
     {
         let _ = &self.steps;
         let follows = self.begin_traced(trace);
@@ -201,18 +202,18 @@ impl Core {
 
     // The private steps of a turn, with the pc before each.
     #[tactic(auto, using(crate::proofs::Begins::begin_steps, crate::proofs::Traces::trace_steps), unfolding(or_model::specs::Turn::turn_begun, or_model::specs::Trace::private_trace))]
-    fn begin_traced(&mut self, trace: &mut ArrayVec<u32, 256>) -> bool
+    fn begin_traced(&mut self, trace: &mut ArrayVec<u32, MOST_TURN_STEPS>) -> bool
         requires running { self.old.stop ≡ None }
         requires empty { trace.old.items ≡ [] }
         ensures begun { turn_begun self.old ≡ record { core = self.new; follows = result } }
         ensures running { IsTrue result → self.new.stop ≡ None }
         ensures settings { SameSettings self.old self.new }
         ensures trace { trace.new.items ≡ private_trace self.old }
-        ensures room { IsTrue result → length trace.new.items < 256 }
-        ensures few { length trace.new.items ≤ 256 }
+        ensures room { IsTrue result → length trace.new.items < MOST_TURN_STEPS }
+        ensures few { length trace.new.items ≤ MOST_TURN_STEPS }
         ensures items { self.new.steps ≡ self.old.steps + length trace.new.items }
     {
-        for noted in 0..256u32 {
+        for noted in 0..MOST_PRIVATE_STEPS {
             let pc = self.pc();
             match self.try_private() {
                 Private::Stepped => trace.push(pc),
@@ -224,11 +225,11 @@ impl Core {
     }
 
     // The pc before the step on the bus, if one follows.
-    fn trace_bus_step(&self, follows: bool, trace: &mut ArrayVec<u32, 256>)
-        requires room { IsTrue follows → length trace.old.items < 256 }
-        requires few { length trace.old.items ≤ 256 }
+    fn trace_bus_step(&self, follows: bool, trace: &mut ArrayVec<u32, MOST_TURN_STEPS>)
+        requires room { IsTrue follows → length trace.old.items < MOST_TURN_STEPS }
+        requires few { length trace.old.items ≤ MOST_TURN_STEPS }
         ensures trace { trace.new.items ≡ trace.old.items ++ bus_trace (record { core = self.now; follows = follows }) }
-        ensures few { length trace.new.items ≤ 256 }
+        ensures few { length trace.new.items ≤ MOST_TURN_STEPS }
     {
         if follows {
             trace.push(self.pc());
