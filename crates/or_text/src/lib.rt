@@ -4,6 +4,8 @@
 ghost use Rattle.std.specs.Prelude.{◌≡◌, ◌≤◌, ◌<◌, ◌+◌, ◌^◌, ◌++◌, length, OnOk, OnErr, vec_capacity, vec_len, decimal, codes, true, false, pos, negsuc};
 ghost use Rattle.std.specs.Fmt.{digit_glyph, digits, signed_decimal};
 ghost use Rattle.or_text.specs.Hexadecimal.{hexadecimal, word_text, digest_text};
+ghost use Rattle.or_text.specs.Keeps.{Keeps};
+ghost use Rattle.or_text.specs.Letters.{core_letter};
 
 pub mod numerals;
 mod sentence;
@@ -17,6 +19,7 @@ pub fn append_decimal(n: u64, out: &mut Vec<u8>) -> Result<(), AllocError>
     ensures text { OnOk result (out.new.items ≡ out.old.items ++ decimal n) }
     ensures full { OnErr result (vec_capacity out.old < vec_len out.old + length (decimal n)) }
     ensures capacity { vec_capacity out.old ≤ vec_capacity out.new }
+    ensures kept { Keeps out.old.items out.new.items }
 {
     if n < 10 {
         out.push(b'0' + n as u8)?;
@@ -32,6 +35,7 @@ pub fn append_signed(value: i32, out: &mut Vec<u8>) -> Result<(), AllocError>
     ensures text { OnOk result (out.new.items ≡ out.old.items ++ signed_decimal value) }
     ensures full { OnErr result (vec_capacity out.old < vec_len out.old + length (signed_decimal value)) }
     ensures capacity { vec_capacity out.old ≤ vec_capacity out.new }
+    ensures kept { Keeps out.old.items out.new.items }
 {
     if value < 0 {
         out.push(b'-')?;
@@ -63,12 +67,20 @@ fn small(digit: u8) -> u8
     }
 }
 
+/// The letter of a core, `a` for core 0, as schedules and reports name it.
+pub fn core_letter(core: u32) -> u8
+    ensures { result ≡ core_letter core }
+{
+    b'a' + (core % 26) as u8
+}
+
 // Appends a number in capital hexadecimal digits, without leading zeros.
 #[tactic(auto, using(crate::proofs::Digits::digit_rules))]
 fn append_digits(n: u32, out: &mut Vec<u8>) -> Result<(), AllocError>
     ensures text { OnOk result (out.new.items ≡ out.old.items ++ digits 16 true n) }
     ensures full { OnErr result (vec_capacity out.old < vec_len out.old + length (digits 16 true n)) }
     ensures capacity { vec_capacity out.old ≤ vec_capacity out.new }
+    ensures kept { Keeps out.old.items out.new.items }
 {
     if n < 16 {
         out.push(capital(n))?;
@@ -84,17 +96,20 @@ pub fn append_hexadecimal(n: u32, out: &mut Vec<u8>) -> Result<(), AllocError>
     ensures text { OnOk result (out.new.items ≡ out.old.items ++ hexadecimal n) }
     ensures full { OnErr result (vec_capacity out.old < vec_len out.old + length (hexadecimal n)) }
     ensures capacity { vec_capacity out.old ≤ vec_capacity out.new }
+    ensures kept { Keeps out.old.items out.new.items }
 {
     out.extend_from_slice(b"0x")?;
     append_digits(n, out)
 }
 
 /// Appends a word as eight capital hexadecimal digits.
+#[tactic(auto, unfolding(crate::specs::Hexadecimal::word_text))]
 pub fn append_word(n: u32, out: &mut Vec<u8>) -> Result<(), AllocError>
     ensures text { OnOk result (out.new.items ≡ out.old.items ++ word_text n) }
     ensures same { OnErr result (out.new.items ≡ out.old.items) }
     ensures full { OnErr result (vec_capacity out.old < vec_len out.old + length (word_text n)) }
     ensures capacity { vec_capacity out.old ≤ vec_capacity out.new }
+    ensures kept { Keeps out.old.items out.new.items }
 {
     out.extend_from_slice(&word_digits(n))
 }
@@ -105,6 +120,7 @@ pub fn append_digest(bytes: &[u8], out: &mut Vec<u8>) -> Result<(), AllocError>
     ensures text { OnOk result (out.new.items ≡ out.old.items ++ digest_text bytes.now) }
     ensures full { OnErr result (vec_capacity out.old < vec_len out.old + length (digest_text bytes.now)) }
     ensures capacity { vec_capacity out.old ≤ vec_capacity out.new }
+    ensures kept { Keeps out.old.items out.new.items }
 {
     for byte in bytes {
         out.extend_from_slice(&[small(*byte / 16), small(*byte % 16)])?;
