@@ -2,6 +2,7 @@
 use Rattle.std.specs.Prelude.{◌≡◌, ℕ, ◌+◌, nat_le, if◌then◌else◌, Bool, true, false, ◌&&◌, ◌||◌, not, List, [], ◌∷◌, ◌++◌, length, take, Option, Some, None, Result, Ok, Err, is_some, option_map, MatchOption}
 use Rattle.std.specs.List.{list_any}
 use Rattle.std.specs.Option.{option_map_or}
+use Rattle.or_words.specs.declared.limits.TheConstants.{MOST_RAM_BYTES, MOST_SEGMENTS}
 use Rattle.or_asm_read.specs.declared.fault.Fault.{Fault}
 use Rattle.or_asm_read.specs.declared.fault.Fault.TheVariants as fault
 use Rattle.or_asm_read.specs.declared.statements.Statement.{Statement}
@@ -43,7 +44,7 @@ repeats labels (Some name) = is_some (place_of labels name)
 
 -- a word has no room at 10000000 (hexadecimal) or above, nor in a 65th piece
 abbrev pub lacks_room : State → List ℕ → Bool
-lacks_room state statement = puts_word statement && (nat_le 0x10000000 state.place || (state.begins_piece && nat_le 64 (length state.pieces)))
+lacks_room state statement = puts_word statement && (nat_le MOST_RAM_BYTES state.place || (state.begins_piece && nat_le MOST_SEGMENTS (length state.pieces)))
 
 abbrev pub overlaps : State → List ℕ → Bool
 overlaps state statement = puts_word statement && list_any (covers state.place) state.pieces

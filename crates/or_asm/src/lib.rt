@@ -3,7 +3,7 @@
 #![tactic(auto)]
 
 ghost use Rattle.std.specs.Prelude.{◌≡◌, ◌≤◌, [], length, OnOk, OnErr};
-ghost use Rattle.or_words.specs.declared.limits.TheConstants.{SOURCE_LIMIT};
+ghost use Rattle.or_words.specs.declared.limits.TheConstants.{SOURCE_LIMIT, MOST_SEGMENTS, MOST_PROGRAM_WORDS};
 ghost use Rattle.or_asm.specs.Program.{word_count};
 ghost use Rattle.or_asm.specs.Source.{source_of, Answers};
 
@@ -32,8 +32,8 @@ pub fn assemble<'a>(alloc: Global, text: &'a [u8], out: &mut Program) -> Result<
     ensures err { OnErr result (out.new ≡ []) }
 
     // What the writer of ELF files asks of a program.
-    ensures few { OnOk result (length out.new ≤ 64) }
-    ensures short { OnOk result (word_count out.new ≤ 16000000) }
+    ensures few { OnOk result (length out.new ≤ MOST_SEGMENTS) }
+    ensures short { OnOk result (word_count out.new ≤ MOST_PROGRAM_WORDS) }
 {
     match passes::assembled(alloc, text) {
         Ok(pieces) => {

@@ -19,6 +19,7 @@ use or_asm_read::fault::{Fault, lesser};
 use or_asm_read::labels::LabelTable;
 use or_asm_read::statements::{Statement, statement_at};
 use or_isa::Piece;
+use or_words::limits::{MOST_RAM_BYTES, MOST_SEGMENTS};
 use std::alloc::{AllocError, Global};
 
 // Where the lines so far lead.
@@ -105,7 +106,8 @@ fn lacks_room(progress: &Progress, statement: &[u8]) -> bool
     ensures { result ≡ lacks_room (state_of progress.now) statement.now }
 {
     puts_word(statement)
-        && (progress.place >= 0x1000_0000 || (progress.begins_piece && progress.pieces.len() >= 64))
+        && (progress.place >= MOST_RAM_BYTES
+            || (progress.begins_piece && progress.pieces.len() >= MOST_SEGMENTS))
 }
 
 // Whether the word of a statement stands where an earlier one does.

@@ -1,7 +1,7 @@
 // The labels of a source, for the symbol table of its program.
 ghost use Rattle.std.specs.Prelude.{◌≡◌, ◌≤◌, ◌<◌, ◌+◌, ◌*◌, ◌^◌, length, map, IfOk, IfSome, IsPermutation, IsSorted};
 ghost use Rattle.std.specs.Ordering.{nat_cmp};
-ghost use Rattle.or_words.specs.declared.limits.TheConstants.{SOURCE_LIMIT};
+ghost use Rattle.or_words.specs.declared.limits.TheConstants.{SOURCE_LIMIT, MOST_PROGRAM_WORDS};
 ghost use Rattle.or_elf.specs.LabelText.{names_size};
 ghost use Rattle.or_asm.specs.First.{all_labels};
 ghost use Rattle.or_asm.specs.Program.{word_count};
@@ -41,7 +41,7 @@ fn next_place(places: &[u64], place: u32, end: u64) -> u64
 }
 
 fn end_of_piece(piece: &Piece) -> u64
-    requires words { length piece.now.1 ≤ 16000000 }
+    requires words { length piece.now.1 ≤ MOST_PROGRAM_WORDS }
     ensures { result ≡ end_of_piece piece.now }
 {
     piece.place as u64 + 4 * piece.words.len() as u64
@@ -50,7 +50,7 @@ fn end_of_piece(piece: &Piece) -> u64
 // Where the piece ends that has a word at a place.
 #[tactic(auto, using(crate::proofs::NextPlace::piece_words))]
 fn end_at(pieces: &[Piece], place: u32) -> Option<u64>
-    requires words { word_count pieces.now ≤ 16000000 }
+    requires words { word_count pieces.now ≤ MOST_PROGRAM_WORDS }
     ensures end { result ≡ end_at pieces.now place }
     ensures near { IfSome result (λ end. (place < end) × (end ≤ place + 64000000)) }
 {
@@ -66,7 +66,7 @@ fn end_at(pieces: &[Piece], place: u32) -> Option<u64>
 #[tactic(auto, using(crate::proofs::NextPlace::next_within))]
 fn size_at(places: &[u64], pieces: &[Piece], place: u32) -> u32
     requires sorted { IsSorted nat_cmp places.now }
-    requires words { word_count pieces.now ≤ 16000000 }
+    requires words { word_count pieces.now ≤ MOST_PROGRAM_WORDS }
     ensures { result ≡ size_at places.now pieces.now place }
 {
     match end_at(pieces, place) {
@@ -78,7 +78,7 @@ fn size_at(places: &[u64], pieces: &[Piece], place: u32) -> u32
 // A label as the symbol table has it; the places of all labels rise.
 fn entry<'a>(places: &[u64], pieces: &[Piece], name: &'a [u8], place: u32) -> Label<'a>
     requires sorted { IsSorted nat_cmp places.now }
-    requires words { word_count pieces.now ≤ 16000000 }
+    requires words { word_count pieces.now ≤ MOST_PROGRAM_WORDS }
     ensures { result ≡ entry_of places.now pieces.now (name.now, place) }
 {
     Label {
@@ -95,7 +95,7 @@ fn entries<'a>(
     labels: &[(&'a [u8], u32)],
     pieces: &[Piece],
 ) -> Result<Vec<Label<'a>>, AllocError>
-    requires words { word_count pieces.now ≤ 16000000 }
+    requires words { word_count pieces.now ≤ MOST_PROGRAM_WORDS }
     ensures { IfOk result (λ entries. entries.items ≡ symbols_of (map (λ label. (label.0.now, label.1)) labels.now) pieces.now) }
 {
     let places = sorted_places(alloc, labels)?;
@@ -116,7 +116,7 @@ pub fn program_symbols<'a>(
     program: &Program,
 ) -> Result<Vec<Label<'a>>, AllocError>
     requires limit { length text.now ≤ SOURCE_LIMIT }
-    requires words { word_count program.now ≤ 16000000 }
+    requires words { word_count program.now ≤ MOST_PROGRAM_WORDS }
     ensures labels { IfOk result (λ labels. labels.items ≡ symbols_of (all_labels text.now) program.now) }
     ensures names { IfOk result (λ labels. names_size labels.items ≤ SOURCE_LIMIT) }
 {

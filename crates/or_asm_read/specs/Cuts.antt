@@ -1,6 +1,7 @@
 -- The parts of a line.
 use Rattle.std.specs.Prelude.{ℕ, ◌==◌, nat_lt, nat_le, if◌then◌else◌, Bool, false, ◌&&◌, ◌||◌, List, [], ◌∷◌, length, Option, Some, None}
 use Rattle.std.specs.List.{before_first, after_first, list_all, list_any}
+use Rattle.or_words.specs.declared.limits.TheConstants.{LABEL_LIMIT}
 
 -- a blank or a tab
 abbrev pub is_blank : ℕ → Bool
@@ -19,10 +20,10 @@ is_decimal_digit b = nat_le 48 b && nat_le b 57
 abbrev pub is_label_byte : ℕ → Bool
 is_label_byte b = is_label_start b || is_decimal_digit b
 
--- a letter or _, then letters, digits and _, at most 64 in all
+-- a letter or _, then letters, digits and _
 unfoldable pub is_label : List ℕ → Bool
 is_label [] = false
-is_label (b ∷ bs) = is_label_start b && list_all is_label_byte bs && nat_lt (length bs) 64
+is_label (b ∷ bs) = is_label_start b && list_all is_label_byte bs && nat_lt (length bs) LABEL_LIMIT
 
 -- without the blanks in front
 abbrev pub trimmed_start : List ℕ → List ℕ

@@ -1,6 +1,7 @@
 -- What a statement does.
-use Rattle.std.specs.Prelude.{ℕ, ◌%◌, ◌^◌, ◌<◌, ◌==◌, nat_lt, if◌then◌else◌, ℤ, pos, negsuc, ◌&&◌, List, codes, Option, Some, None, Result, Ok, Err}
+use Rattle.std.specs.Prelude.{ℕ, ◌%◌, ◌<◌, ◌==◌, nat_lt, if◌then◌else◌, ℤ, pos, negsuc, ◌&&◌, List, codes, Option, Some, None, Result, Ok, Err}
 use Rattle.std.specs.Str.{bytes_eq}
+use Rattle.or_words.specs.declared.limits.TheConstants.{MOST_RAM_BYTES}
 use Rattle.or_isa.specs.Word.{word_of}
 use Rattle.or_isa.specs.declared.Insn.{Insn}
 use Rattle.or_asm_text.specs.declared.operands.Operands.{Operands}
@@ -16,18 +17,18 @@ use Rattle.or_asm_read.specs.Numbers.{number_of}
 use Rattle.or_asm_read.specs.Operands.{is_empty, value_at, bits_of, operands_at}
 use Rattle.or_asm_read.specs.Labels.{Labels}
 
--- a place that a statement sets is below 10000000 (hexadecimal)
+-- a place that a statement sets lies in the largest RAM
 abbrev pub HasLowPlace : Result Statement Fault → Type 0
 HasLowPlace (Ok Nothing) = Unit {0}
-HasLowPlace (Ok (Place place)) = place < 2 ^ 28
+HasLowPlace (Ok (Place place)) = place < MOST_RAM_BYTES
 HasLowPlace (Ok (Word word)) = Unit {0}
 HasLowPlace (Err fault) = Unit {0}
 
--- .org: a multiple of four below 10000000 (hexadecimal)
+-- .org: a multiple of four in the largest RAM
 abbrev pub org_at : Option ℤ → Result Statement Fault
 org_at None = Err BadLine
 org_at (Some (negsuc n)) = Err OutOfRange
-org_at (Some (pos n)) = if nat_lt n 0x10000000 && n % 4 == 0 then Ok (Place n) else Err OutOfRange
+org_at (Some (pos n)) = if nat_lt n MOST_RAM_BYTES && n % 4 == 0 then Ok (Place n) else Err OutOfRange
 
 -- .word: a label or a number of 32 bits, signed or not
 abbrev pub word_at : Result ℕ Fault → Result Statement Fault

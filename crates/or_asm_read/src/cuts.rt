@@ -3,6 +3,8 @@ ghost use Rattle.std.specs.Prelude.{◌≡◌, ◌+◌, ◌≤◌, ◌==◌, len
 ghost use Rattle.std.specs.List.{position_or_len, list_all};
 ghost use Rattle.or_asm_read.specs.Cuts.{is_blank, is_allowed, is_label_start, is_decimal_digit, is_label_byte, is_label, trimmed_start, trimmed_end, trimmed, before, after, has, body_of, is_clean, has_label, label_of, statement_of, name_part, operands_part};
 
+use or_words::limits::LABEL_LIMIT;
+
 fn is_blank(byte: u8) -> bool
     ensures { result ≡ is_blank byte }
 {
@@ -42,7 +44,7 @@ pub fn is_label(text: &[u8]) -> bool
     match text.split_first() {
         None => false,
         Some((first, rest)) => {
-            is_label_start(*first) && are_label_bytes(rest) && rest.len() < 64
+            is_label_start(*first) && are_label_bytes(rest) && rest.len() < LABEL_LIMIT
         }
     }
 }

@@ -14,6 +14,7 @@ use crate::operands::{bits_at, is_empty, operands_at};
 use or_asm_text::names::insn_named;
 use or_asm_text::operands::{slots, with_operands};
 use or_isa::{Insn, encode};
+use or_words::limits::MOST_RAM_BYTES;
 
 /// What a statement does: nothing, it sets the place, or it puts a word.
 #[derive(Clone, Copy)]
@@ -31,7 +32,7 @@ pub fn org_at(text: &[u8]) -> Result<Statement, Fault>
     match number(text) {
         None => Err(Fault::BadLine),
         Some(place) => {
-            if 0 <= place && place < 0x1000_0000 && place % 4 == 0 {
+            if 0 <= place && place < i64::from(MOST_RAM_BYTES) && place % 4 == 0 {
                 Ok(Statement::Place(place as u32))
             } else {
                 Err(Fault::OutOfRange)

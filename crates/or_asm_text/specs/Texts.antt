@@ -33,9 +33,13 @@ slot_text pc Page o = signed_decimal o.value
 slot_text pc Target o = hexadecimal (target_of pc o.value)
 slot_text pc Memory o = signed_decimal o.value ++ codes "(" ++ register_text o.a ++ codes ")"
 
+-- an operand behind a comma
+abbrev pub next_text : ℕ → Operands → Slot → List ℕ
+next_text pc o slot = 44 ∷ slot_text pc slot o
+
 -- further operands, each behind a comma
 abbrev pub further_text : ℕ → Operands → List Slot → List ℕ
-further_text pc o slots = flat_map (λ slot. 44 ∷ slot_text pc slot o) slots
+further_text pc o slots = flat_map (next_text pc o) slots
 
 -- a blank and the operands, if there are any
 abbrev pub slots_text : ℕ → Operands → List Slot → List ℕ
