@@ -1,7 +1,9 @@
 pub mod Ranges
 pub mod Headers
 pub mod Tables
+pub mod Named
 pub mod Starts
+pub mod LabelMaps
 pub mod Faults
 pub mod Parts
 pub mod LoadsAlike

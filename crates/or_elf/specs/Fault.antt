@@ -1,5 +1,6 @@
 -- Why a file is refused: the first test that fails, with its number and its place.
 use Rattle.std.specs.Prelude.{ℕ, ◌+◌, ◌*◌, ◌<◌, ◌≤◌, ◌==◌, not, ◌&&◌, nat_lt, nat_le, List, [], ◌∷◌, length, slice_index, if◌then◌else◌, Option, Some, None}
+use Rattle.or_words.specs.declared.limits.TheConstants.{MOST_SEGMENTS}
 use Rattle.or_elf.specs.declared.fault.ElfFault.{ElfFault}
 use Rattle.or_elf.specs.declared.fault.ElfFault.TheVariants.{Short, BadIdent, BadHeader, NoSegments, SegmentOutOfFile, SegmentOutOfRam, FileSizeOverMemSize}
 use Rattle.or_elf.specs.declared.segment.Segment.{Segment}
@@ -56,7 +57,7 @@ header_fault bytes =
     (or_else (field_fault 20 (word_at bytes 20) 1)
     (or_else (field_fault 40 (half_at bytes 40) 52)
     (or_else (field_fault 42 (half_at bytes 42) 32)
-    (if nat_le (header_count bytes) 64 then None else Some (BadHeader 44 (header_count bytes)))))))
+    (if nat_le (header_count bytes) MOST_SEGMENTS then None else Some (BadHeader 44 (header_count bytes)))))))
 
 -- fault 1 again: the program headers, if there are any, end within the file
 abbrev pub program_table_fault : List ℕ → Option ElfFault

@@ -6,4 +6,6 @@ pub mod Text
 pub mod LabelText
 pub mod Loading
 pub mod Symbols
+pub mod Names
+pub mod Labels
 pub mod Sentences

@@ -1,6 +1,7 @@
 -- What loading a file depends on, and which programs can be loaded from their files.
 use Rattle.std.specs.Prelude.{◌≡◌, ℕ, ◌+◌, ◌*◌, ◌<◌, ◌≤◌, List, length, take, drop}
 use Rattle.std.specs.List.{All, AllPairs}
+use Rattle.or_words.specs.declared.limits.TheConstants.{MOST_SEGMENTS, MOST_PROGRAM_WORDS}
 use Rattle.or_elf.specs.Header.{table_start, header_count, segments}
 use Rattle.or_elf.specs.Text.{Piece, piece_size, word_count}
 
@@ -23,10 +24,10 @@ pub record Covers (piece : Piece) (address : ℕ) : Type 0 where
 abbrev pub ShareNoAddress : Piece → Piece → Type 0
 ShareNoAddress piece other = (address : ℕ) → Covers piece address → Covers other address → ⊥
 
--- a program of 1 to 64 pieces inside so many bytes of RAM, no two of which share an address, of at most 16000000 words
+-- a program of some pieces inside so many bytes of RAM, no two of which share an address
 pub record IsLoadable (ram : ℕ) (program : List Piece) : Type 0 where
   pub some : 0 < length program
-  pub few : length program ≤ 64
+  pub few : length program ≤ MOST_SEGMENTS
   pub inside : All (λ piece. piece.0 + piece_size piece ≤ ram) program
   pub apart : AllPairs ShareNoAddress program
-  pub small : word_count program ≤ 16000000
+  pub small : word_count program ≤ MOST_PROGRAM_WORDS

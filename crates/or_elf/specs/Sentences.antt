@@ -1,5 +1,6 @@
 -- What is said to people of a fault of an image or of its symbols.
 use Rattle.std.specs.Prelude.{ℕ, ◌==◌, ◌++◌, nat_le, if◌then◌else◌, List, codes, decimal}
+use Rattle.or_words.specs.declared.limits.TheConstants.{MOST_RAM_BYTES}
 use Rattle.or_text.specs.Sentences.{address_text}
 use Rattle.or_elf.specs.declared.fault.ElfFault.{ElfFault}
 use Rattle.or_elf.specs.declared.fault.ElfFault.TheVariants.{Short, BadIdent, BadHeader, NoSegments, SegmentOutOfFile, SegmentOutOfRam, FileSizeOverMemSize}
@@ -35,7 +36,7 @@ field_wanted field =
 
 -- a board has at most 256 MiB of RAM, so that --ram helps a segment that ends there or below
 abbrev pub ram_remedy : ℕ → List ℕ
-ram_remedy end = if nat_le end 268435456 then codes ": use --ram" else codes ": link it below 10000000"
+ram_remedy end = if nat_le end MOST_RAM_BYTES then codes ": use --ram" else codes ": link it below 10000000"
 
 abbrev pub elf_sentence : ElfFault → List ℕ
 elf_sentence (Short at) = codes "the file ends at byte " ++ decimal at ++ codes ", within its headers"

@@ -3,6 +3,7 @@ ghost use Rattle.std.specs.Prelude.{◌≡◌};
 ghost use Rattle.or_elf.specs.Sentences.{ident_words, field_name, field_wanted, ram_remedy};
 
 use or_text::{Part, Sentence};
+use or_words::limits::MOST_RAM_BYTES;
 use thiserror::Error;
 
 /// The first fault of a file: the test that fails, with its place.
@@ -166,7 +167,7 @@ fn field_wanted(field: u32) -> &'static str
 fn ram_remedy(end: u64) -> &'static str
     ensures { result.now ≡ ram_remedy end }
 {
-    if end <= 268_435_456 {
+    if end <= u64::from(MOST_RAM_BYTES) {
         ": use --ram"
     } else {
         ": link it below 10000000"

@@ -1,6 +1,6 @@
 // Writes the file of a program with its labels.
 ghost use Rattle.std.specs.Prelude.{◌≡◌, ◌≤◌, ◌<◌, ◌+◌, ◌*◌, ◌^◌, [], ◌∷◌, ◌++◌, length, map, replicate, OnOk, OnErr, vec_capacity, vec_len};
-ghost use Rattle.or_words.specs.declared.limits.TheConstants.{SOURCE_LIMIT};
+ghost use Rattle.or_words.specs.declared.limits.TheConstants.{SOURCE_LIMIT, MOST_SEGMENTS, MOST_PROGRAM_WORDS};
 ghost use Rattle.or_elf.specs.Text.{word_count};
 ghost use Rattle.or_elf.specs.LabelText.{names_size, padding_size, name_text, names_text, strings_text, symbol_text, symbols_text, symbol_table_text, three_sections, section_headers, sections_text, sections_start, strings_start, strings_size, symbol_table_start, symbol_table_size, labelled_text};
 
@@ -38,8 +38,8 @@ pub fn write_labelled(
     out: &mut Vec<u8>,
 ) -> Result<(), NoMemory>
     requires empty { out.old.items ≡ [] }
-    requires pieces { length program.now ≤ 64 }
-    requires words { word_count program.now ≤ 16000000 }
+    requires pieces { length program.now ≤ MOST_SEGMENTS }
+    requires words { word_count program.now ≤ MOST_PROGRAM_WORDS }
     requires names { names_size labels.now ≤ SOURCE_LIMIT }
     ensures text { OnOk result (out.new.items ≡ labelled_text program.now labels.now) }
     ensures no_memory { OnErr result (out.new.items ≡ []) }
@@ -57,8 +57,8 @@ pub fn write_labelled(
 #[tactic(auto, unfolding(crate::specs::LabelText::labelled_text, crate::specs::LabelText::sections_text), using(crate::proofs::LabelSizes::few_labels))]
 fn append_file(pieces: &[Piece], labels: &[Label<'_>], out: &mut Vec<u8>) -> Result<(), AllocError>
     requires empty { out.old.items ≡ [] }
-    requires pieces { length pieces.now ≤ 64 }
-    requires words { word_count pieces.now ≤ 16000000 }
+    requires pieces { length pieces.now ≤ MOST_SEGMENTS }
+    requires words { word_count pieces.now ≤ MOST_PROGRAM_WORDS }
     requires names { names_size labels.now ≤ SOURCE_LIMIT }
     ensures text { OnOk result (out.new.items ≡ labelled_text pieces.now labels.now) }
     ensures full { OnErr result (vec_capacity out.old < length (labelled_text pieces.now labels.now)) }
@@ -92,8 +92,8 @@ fn three_sections(start: u32) -> SectionHeaders
 
 // How long the headers of a program and its words are.
 fn program_size(pieces: &[Piece]) -> u32
-    requires pieces { length pieces.now ≤ 64 }
-    requires words { word_count pieces.now ≤ 16000000 }
+    requires pieces { length pieces.now ≤ MOST_SEGMENTS }
+    requires words { word_count pieces.now ≤ MOST_PROGRAM_WORDS }
     ensures { result ≡ symbol_table_start pieces.now }
 {
     let mut rest = pieces;

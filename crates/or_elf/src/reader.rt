@@ -1,13 +1,14 @@
 // Reads a file, one test after another.
 ghost use Rattle.std.specs.Prelude.{◌≡◌, ◌≢◌, ◌≤◌, ◌<◌, ◌+◌, ◌*◌, length, None, Some, MatchResult, IfOk, OnOk, slice_index};
 ghost use Rattle.std.specs.List.{All};
-ghost use Rattle.or_words.specs.declared.limits.TheConstants.{IMAGE_LIMIT};
+ghost use Rattle.or_words.specs.declared.limits.TheConstants.{IMAGE_LIMIT, MOST_SEGMENTS};
 ghost use Rattle.or_elf.specs.Header.{half_at, word_at, table_start, header_count, header_start, segment_at, segments};
 ghost use Rattle.or_elf.specs.Fault.{elf_fault, length_fault, ident_fault, header_fault, program_table_fault, segment_fault, segments_fault, field_fault, IsInside};
 
 use crate::fields::{half, word};
 use crate::{ElfFault, Image, Segment};
 use arrayvec::ArrayVec;
+use or_words::limits::MOST_SEGMENTS;
 
 /// The segments of a file for a board with `ram` bytes of RAM, or the file's first fault: the file is 32 bits,
 /// big-endian, executable, for OpenRISC and of version 1 (ELF gABI, "ELF Header"), it has 1 to 64 program headers,
@@ -80,7 +81,7 @@ fn check_field(field: u32, found: u32, wanted: u32) -> Result<(), ElfFault>
 
 fn check_header(bytes: &[u8]) -> Result<(), ElfFault>
     requires { 52 ≤ length bytes.now }
-    ensures { MatchResult result (λ _. (header_fault bytes.now ≡ None) × (header_count bytes.now ≤ 64)) (λ fault. header_fault bytes.now ≡ Some fault) }
+    ensures { MatchResult result (λ _. (header_fault bytes.now ≡ None) × (header_count bytes.now ≤ MOST_SEGMENTS)) (λ fault. header_fault bytes.now ≡ Some fault) }
 {
     check_field(16, u32::from(half(bytes, 16)), 2)?;
     check_field(18, u32::from(half(bytes, 18)), 92)?;
@@ -88,7 +89,7 @@ fn check_header(bytes: &[u8]) -> Result<(), ElfFault>
     check_field(40, u32::from(half(bytes, 40)), 52)?;
     check_field(42, u32::from(half(bytes, 42)), 32)?;
     let count = half(bytes, 44);
-    if count > 64 {
+    if usize::from(count) > MOST_SEGMENTS {
         return Err(ElfFault::BadHeader {
             field: 44,
             value: u32::from(count),
@@ -100,7 +101,7 @@ fn check_header(bytes: &[u8]) -> Result<(), ElfFault>
 fn check_table(bytes: &[u8]) -> Result<(), ElfFault>
     requires long { 52 ≤ length bytes.now }
     requires short { length bytes.now ≤ IMAGE_LIMIT }
-    requires count { header_count bytes.now ≤ 64 }
+    requires count { header_count bytes.now ≤ MOST_SEGMENTS }
     ensures { MatchResult result
         (λ _. (program_table_fault bytes.now ≡ None) × (0 < header_count bytes.now → table_start bytes.now + 32 * header_count bytes.now ≤ length bytes.now))
         (λ fault. program_table_fault bytes.now ≡ Some fault) }
@@ -118,10 +119,10 @@ fn check_table(bytes: &[u8]) -> Result<(), ElfFault>
 }
 
 // The headers of type 1.
-fn collect(bytes: &[u8]) -> ArrayVec<Segment, 64>
+fn collect(bytes: &[u8]) -> ArrayVec<Segment, MOST_SEGMENTS>
     requires long { 52 ≤ length bytes.now }
     requires short { length bytes.now ≤ IMAGE_LIMIT }
-    requires count { header_count bytes.now ≤ 64 }
+    requires count { header_count bytes.now ≤ MOST_SEGMENTS }
     requires table { 0 < header_count bytes.now → table_start bytes.now + 32 * header_count bytes.now ≤ length bytes.now }
     ensures { result.items ≡ segments bytes.now }
 {

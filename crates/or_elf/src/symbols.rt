@@ -2,6 +2,7 @@
 ghost use Rattle.std.specs.Prelude.{◌≡◌, ◌⊎◌, ◌≤◌, ◌<◌, ◌+◌, ◌*◌, ◌==◌, ◌++◌, Some, None, length, take, drop, MatchResult, IfOk, OnOk, OnErr, vec_capacity, vec_len, if◌then◌else◌, ◌^◌};
 ghost use Rattle.or_elf.specs.Header.{word_at};
 ghost use Rattle.std.specs.List.{find, list_any};
+ghost use Rattle.or_text.specs.Keeps.{Keeps};
 ghost use Rattle.or_words.specs.declared.limits.TheConstants.{IMAGE_LIMIT};
 ghost use Rattle.or_elf.specs.Symbols.{section_count, symbol_fault, symbols_of, contents_fault, symbol_table, symbols_in, no_symbols, HasSections, HasTable, is_of_type, symbol_start, symbol_at, symbols_among, symbols_of_type, with_names, names_fault, has_end, covers, later_start, innermost, function_around, function_of, object_of, shown, name_text, symbol_name, offset_text, place_text, object_text};
 
@@ -104,6 +105,7 @@ impl Symbols {
         ensures text { OnOk result (out.new.items ≡ out.old.items ++ place_text self.now pc) }
         ensures full { OnErr result (vec_capacity out.old < vec_len out.old + length (place_text self.now pc)) }
         ensures capacity { vec_capacity out.old ≤ vec_capacity out.new }
+        ensures kept { Keeps out.old.items out.new.items }
     {
         let Some(function) = self.function_around(pc) else {
             return Ok(());
@@ -119,12 +121,27 @@ impl Symbols {
         ensures text { OnOk result (out.new.items ≡ out.old.items ++ object_text self.now word) }
         ensures full { OnErr result (vec_capacity out.old < vec_len out.old + length (object_text self.now word)) }
         ensures capacity { vec_capacity out.old ≤ vec_capacity out.new }
+        ensures kept { Keeps out.old.items out.new.items }
     {
         let Some(object) = self.object_of(word) else {
             return Ok(());
         };
         out.extend_from_slice(b" in ")?;
         append_offset(&self.names, &object, word, out)
+    }
+
+    // Appends the name of a symbol.
+    pub(crate) fn append_name_of(
+        &self,
+        symbol: &Symbol,
+        out: &mut Vec<u8>,
+    ) -> Result<(), AllocError>
+        ensures text { OnOk result (out.new.items ≡ out.old.items ++ name_text (drop symbol.now.name self.now.names)) }
+        ensures full { OnErr result (vec_capacity out.old < vec_len out.old + length (name_text (drop symbol.now.name self.now.names))) }
+        ensures capacity { vec_capacity out.old ≤ vec_capacity out.new }
+        ensures kept { Keeps out.old.items out.new.items }
+    {
+        append_shown(tail(&self.names, symbol.name as usize), out)
     }
 
     /// Appends the name of the function with this index, with `?` for each byte that is no visible character of ASCII.
@@ -141,7 +158,8 @@ impl Symbols {
     }
 }
 
-fn empty(alloc: Global) -> Symbols
+// No symbols.
+pub(crate) fn empty(alloc: Global) -> Symbols
     ensures { result ≡ no_symbols }
 {
     Symbols {
@@ -318,7 +336,7 @@ fn has_zero(bytes: &[u8]) -> bool
     false
 }
 
-fn tail(bytes: &[u8], start: usize) -> &[u8]
+pub(crate) fn tail(bytes: &[u8], start: usize) -> &[u8]
     ensures { result.now ≡ drop start bytes.now }
 {
     if start > bytes.len() {
@@ -398,6 +416,7 @@ fn append_offset(
     ensures text { OnOk result (out.new.items ≡ out.old.items ++ offset_text names.now symbol.now address) }
     ensures full { OnErr result (vec_capacity out.old < vec_len out.old + length (offset_text names.now symbol.now address)) }
     ensures capacity { vec_capacity out.old ≤ vec_capacity out.new }
+    ensures kept { Keeps out.old.items out.new.items }
 {
     append_shown(tail(names, symbol.name as usize), out)?;
     out.extend_from_slice(b"+")?;
@@ -425,7 +444,7 @@ fn append_shown(text: &[u8], out: &mut Vec<u8>) -> Result<(), AllocError>
     ensures name { OnOk result (out.new.items ≡ out.old.items ++ name_text text.now) }
     ensures full { OnErr result (vec_capacity out.old < vec_len out.old + length (name_text text.now)) }
     ensures capacity { vec_capacity out.old ≤ vec_capacity out.new }
-    ensures kept { take (length out.old.items) out.new.items ≡ out.old.items }
+    ensures kept { Keeps out.old.items out.new.items }
 {
     let mut rest = text;
     while let Some((byte, others)) = rest.split_first() {

@@ -1,6 +1,7 @@
 // Writes the file of a program.
 ghost use Rattle.std.specs.Prelude.{◌≡◌, ◌≤◌, ◌<◌, ◌+◌, ◌*◌, ◌^◌, [], ◌++◌, length, OnOk, OnErr, vec_capacity, vec_len};
 ghost use Rattle.byteorder.specs.Endian.{big_bytes};
+ghost use Rattle.or_words.specs.declared.limits.TheConstants.{MOST_SEGMENTS, MOST_PROGRAM_WORDS};
 ghost use Rattle.or_elf.specs.Text.{word_count, words_text, halves_text, ident, no_sections, elf_header, headers_start, program_header, program_headers, pieces_text, program_text, elf_text};
 
 use byteorder::{BigEndian, ByteOrder};
@@ -33,8 +34,8 @@ const NO_SECTIONS: SectionHeaders = SectionHeaders {
 /// `NoMemory`, which comes only where it lacks the capacity for the whole file.
 pub fn write(program: &Program, out: &mut Vec<u8>) -> Result<(), NoMemory>
     requires empty { out.old.items ≡ [] }
-    requires pieces { length program.now ≤ 64 }
-    requires words { word_count program.now ≤ 16000000 }
+    requires pieces { length program.now ≤ MOST_SEGMENTS }
+    requires words { word_count program.now ≤ MOST_PROGRAM_WORDS }
     ensures text { OnOk result (out.new.items ≡ elf_text program.now) }
     ensures no_memory { OnErr result (out.new.items ≡ []) }
     ensures full { OnErr result (vec_capacity out.old < length (elf_text program.now)) }
@@ -56,8 +57,8 @@ pub(crate) fn append_program(
     out: &mut Vec<u8>,
 ) -> Result<(), AllocError>
     requires empty { out.old.items ≡ [] }
-    requires pieces { length pieces.now ≤ 64 }
-    requires words { word_count pieces.now ≤ 16000000 }
+    requires pieces { length pieces.now ≤ MOST_SEGMENTS }
+    requires words { word_count pieces.now ≤ MOST_PROGRAM_WORDS }
     ensures text { OnOk result (out.new.items ≡ program_text sections pieces.now) }
     ensures full { OnErr result (vec_capacity out.old < length (program_text sections pieces.now)) }
     ensures capacity { vec_capacity out.old ≤ vec_capacity out.new }
