@@ -1,4 +1,5 @@
 pub mod Placing
+pub mod Grouped
 pub mod Registers
 pub mod Reset
 pub mod Turning

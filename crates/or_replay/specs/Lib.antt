@@ -7,3 +7,4 @@ pub mod Report
 pub mod Following
 pub mod Watching
 pub mod Stepping
+pub mod Steps

@@ -1,6 +1,7 @@
 -- Turns that are begun and not ended: behind some steps of a turn only its core differs from the board before it.
 use Rattle.std.specs.Prelude.{◌≡◌, ◌≤◌, ◌<◌, ℕ, zero, suc, ◌+◌, ◌-◌, ◌==◌, ◌&&◌, ◌||◌, Bool, true, false, if◌then◌else◌, List, [], ◌∷◌, ◌++◌, Option, Some, None, drop, slice_get, slice_set, option_and_then}
 use Rattle.std.specs.List.{list_any}
+use Rattle.or_words.specs.declared.limits.TheConstants.{MOST_PRIVATE_STEPS}
 use Rattle.or_model.specs.Core.{Core}
 use Rattle.or_model.specs.World.{World}
 use Rattle.or_model.specs.Step.{private_step}
@@ -71,16 +72,16 @@ rest_trace left core = trace_within left core ++ bus_trace (begun_within left co
 
 -- the core has made so many steps of its turn, all of them private
 pub record IsInside (first : Core) (steps : ℕ) (core : Core) : Type 0 where
-  pub few : steps ≤ 256
+  pub few : steps ≤ MOST_PRIVATE_STEPS
   pub core_is : core ≡ stepped steps first
-  pub trace : drop steps (turn_trace first) ≡ rest_trace (256 - steps) core
-  pub begun : turn_begun first ≡ begun_within (256 - steps) core
+  pub trace : drop steps (turn_trace first) ≡ rest_trace (MOST_PRIVATE_STEPS - steps) core
+  pub begun : turn_begun first ≡ begun_within (MOST_PRIVATE_STEPS - steps) core
 
 -- and goes on
 pub record GoesOn (first : Core) (steps : ℕ) (core : Core) : Type 0 where
   pub inside : IsInside first steps core
   pub runs : core.stop ≡ None
-  pub fewer : steps < 256
+  pub fewer : steps < MOST_PRIVATE_STEPS
 
 -- the private steps of a turn ended at a pause, or are all made
 abbrev pub IsPaused : List Breakpoint → Option ℕ → ℕ → Core → ℕ → Pause → Core → Type 0

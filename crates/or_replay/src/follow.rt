@@ -87,10 +87,10 @@ impl Board {
         marks: &[Mark],
         watcher: &mut W,
     ) -> Result<(), TurnFault>
-        requires marks { (marks.now ≡ []) ⊎ (length marks.now ≡ length turns.now / 65536) }
+        requires marks { (marks.now ≡ []) ⊎ (length marks.now ≡ length turns.now / BLOCK) }
         requires seen { (start : BoardModel) × W.Sees watcher.old start turns.now 0 self.old.cores self.old.bus }
         ensures followed { (start : BoardModel) → IsBoard self.old.cores self.old.bus start
-            → IsFollowed 65536 start turns.now marks.now result self.new.cores self.new.bus }
+            → IsFollowed BLOCK start turns.now marks.now result self.new.cores self.new.bus }
         ensures exact { (start : BoardModel) → IsBoard self.old.cores self.old.bus start
             → MatchResult result (λ _. IsFollowable start turns.now marks.now) (λ _. IsFollowable start turns.now marks.now → ⊥) }
         ensures config { self.new.config ≡ self.old.config }

@@ -5,6 +5,7 @@ mod board;
 mod failing;
 mod follow;
 pub mod laws;
+mod listing;
 mod opening;
 mod readers;
 mod reporting;

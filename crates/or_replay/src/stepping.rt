@@ -1,5 +1,6 @@
 //! Turns that pause inside, as at a breakpoint.
 ghost use Rattle.std.specs.Prelude.{◌≡◌, ◌<◌, ◌+◌, ℕ, true, false, None};
+ghost use Rattle.or_words.specs.declared.limits.TheConstants.{MOST_PRIVATE_STEPS};
 ghost use Rattle.or_model.specs.Core.{Core as CoreModel};
 ghost use Rattle.or_model.specs.Counts.{SameSettings};
 ghost use Rattle.or_model.specs.Turn.{Board as BoardModel};
@@ -9,6 +10,7 @@ ghost use Rattle.or_replay.specs.Stepping.{is_hit, hits_any, is_core_of, is_most
 use crate::board::Board;
 use or_bus::{Access, Bus};
 use or_core::{Core, Private};
+use or_words::limits::MOST_PRIVATE_STEPS;
 
 /// It is hit where a step of the core, or of any core where none is given, leaves its pc here.
 #[derive(Clone, Copy, Debug, PartialEq, Eq)]
@@ -74,11 +76,11 @@ fn is_most(most: Option<u32>, step: u32) -> bool
 // Whether a turn of which so many steps are made goes on, and pauses behind the last of them.
 #[tactic(auto, using(crate::proofs::BegunTurns::passed))]
 fn pauses(core: &Core, number: u32, steps: u32, points: &[Breakpoint], most: Option<u32>) -> bool
-    ensures pauses { result ≡ true → (steps < 256) × ((core.now.stop ≡ None) × (is_pause points.now most number steps core.now.pc ≡ true)) }
+    ensures pauses { result ≡ true → (steps < MOST_PRIVATE_STEPS) × ((core.now.stop ≡ None) × (is_pause points.now most number steps core.now.pc ≡ true)) }
     ensures passes { result ≡ false → (first : CoreModel) → (made : ℕ) → steps ≡ made + 1 → IsInside first steps core.now
         → step_pause points.now most number first made ≡ step_pause points.now most number first steps }
 {
-    steps < 256
+    steps < MOST_PRIVATE_STEPS
         && core.stop().is_none()
         && (is_most(most, steps) || hits_any(points, number, core.place().pc))
 }
@@ -92,13 +94,13 @@ fn begin_until(
     most: Option<u32>,
 ) -> Pause
     requires running { core.old.stop ≡ None }
-    requires few { steps < 256 }
+    requires few { steps < MOST_PRIVATE_STEPS }
     ensures paused { (first : CoreModel) → IsInside first steps core.old → IsPaused points.now most number first steps result core.new }
     ensures follows { Follows result → core.new.stop ≡ None }
     ensures settings { SameSettings core.old core.new }
     ensures progress { core.old.steps < core.new.steps + steps_ahead result }
 {
-    for made in steps..256 {
+    for made in steps..MOST_PRIVATE_STEPS {
         match core.try_private() {
             Private::Stepped => {
                 if pauses(core, number, made + 1, points, most) {
@@ -123,7 +125,7 @@ fn until_core(
     bus: &mut Bus,
 ) -> Until
     requires running { core.old.stop ≡ None }
-    requires few { steps < 256 }
+    requires few { steps < MOST_PRIVATE_STEPS }
     requires known { core.old.number < bus.old.cores }
     requires spare { 0 < bus.old.spare }
     requires forgotten { bus.old.last ≡ None }
@@ -155,7 +157,7 @@ fn until_at(
     ensures order { IsInOrder cores.new bus.new }
 {
     let place = core as usize;
-    if place >= cores.len() || steps >= 256 || cores[place].stop().is_some() {
+    if place >= cores.len() || steps >= MOST_PRIVATE_STEPS || cores[place].stop().is_some() {
         return Until::Ended { access: None };
     }
     bus.forget();

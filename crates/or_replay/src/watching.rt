@@ -12,6 +12,7 @@ use crate::board::{Board, Refused};
 use arrayvec::ArrayVec;
 use or_bus::{Access, Bus};
 use or_core::Core;
+use or_words::limits::MOST_TURN_STEPS;
 
 /// An access to RAM, and the pc of the instruction that made it.
 #[derive(Clone, Copy, Debug, PartialEq, Eq)]
@@ -50,7 +51,11 @@ impl Board {
 
     /// Makes one turn of a core as `turn` does, with the same refusals, and lists in `trace`, which is empty before, the pc
     /// before each of its 1 to 256 steps, in their order. After a refusal it is empty.
-    pub fn turn_traced(&mut self, core: u8, trace: &mut ArrayVec<u32, 256>) -> Result<(), Refused>
+    pub fn turn_traced(
+        &mut self,
+        core: u8,
+        trace: &mut ArrayVec<u32, MOST_TURN_STEPS>,
+    ) -> Result<(), Refused>
         requires empty { trace.old.items ≡ [] }
         ensures turned { (board : BoardModel) → IsBoard self.old.cores self.old.bus board → IsTurned (board_turned board core) result self.new.cores self.new.bus }
         ensures trace { (board : BoardModel) → IsBoard self.old.cores self.old.bus board → IsTraced board core result trace.new.items }
@@ -132,7 +137,7 @@ fn place_one(cores: &mut [Core], core: u8, bus: &mut Bus) -> Result<Option<Place
 }
 
 // One turn of a core that runs, and its trace.
-fn trace_core(core: &mut Core, bus: &mut Bus, trace: &mut ArrayVec<u32, 256>)
+fn trace_core(core: &mut Core, bus: &mut Bus, trace: &mut ArrayVec<u32, MOST_TURN_STEPS>)
     requires running { core.old.stop ≡ None }
     requires known { core.old.number < bus.old.cores }
     requires spare { 0 < bus.old.spare }
@@ -145,7 +150,12 @@ fn trace_core(core: &mut Core, bus: &mut Bus, trace: &mut ArrayVec<u32, 256>)
 
 // One turn of the core at a place, which runs, and its trace.
 #[tactic(auto, using(crate::proofs::Turning::turning))]
-fn trace_at(cores: &mut [Core], place: usize, bus: &mut Bus, trace: &mut ArrayVec<u32, 256>)
+fn trace_at(
+    cores: &mut [Core],
+    place: usize,
+    bus: &mut Bus,
+    trace: &mut ArrayVec<u32, MOST_TURN_STEPS>,
+)
     requires order { IsInOrder cores.old bus.old }
     requires runs { RunsAt cores.old place }
     requires empty { trace.old.items ≡ [] }
@@ -164,7 +174,7 @@ fn trace_one(
     cores: &mut [Core],
     core: u8,
     bus: &mut Bus,
-    trace: &mut ArrayVec<u32, 256>,
+    trace: &mut ArrayVec<u32, MOST_TURN_STEPS>,
 ) -> Result<(), Refused>
     requires order { IsInOrder cores.old bus.old }
     requires empty { trace.old.items ≡ [] }
