@@ -52,7 +52,6 @@ fn go_backward(
 
 // Does what a line of the debugger says, and makes its text.
 fn answer_plain(
-    alloc: Global,
     history: &mut History,
     stops: &mut Stops,
     command: Command,
@@ -70,7 +69,7 @@ fn answer_plain(
         Command::Break { core, pc } => stops.set_break(core, pc),
         Command::Watch { address } => stops.set_watch(&mut history.board, address),
         Command::Stores { address } => stops.set_store(&mut history.board, address),
-        Command::Registers { core } => append_registers(alloc, &history.board, core, text),
+        Command::Registers { core } => append_registers(&history.board, core, text),
         Command::Memory { address, words } => {
             append_memory(&mut history.board, address, words, text)
         }
@@ -81,7 +80,6 @@ fn answer_plain(
 
 // Does what a command says, and makes its text.
 fn answer(
-    alloc: Global,
     history: &mut History,
     stops: &mut Stops,
     command: BackCommand,
@@ -93,7 +91,7 @@ fn answer(
         → IsBackAnswered start turns history.old stops.old command text.new.items history.new stops.new) }
 {
     match command {
-        BackCommand::Plain { command } => answer_plain(alloc, history, stops, command, text),
+        BackCommand::Plain { command } => answer_plain(history, stops, command, text),
         BackCommand::Back { turns: count } => go_backward(history, stops, count, text),
         BackCommand::To { turn } => travel(history, stops, u64::from(turn), text),
         BackCommand::GoBack => go_back(history, stops, text),
@@ -114,7 +112,7 @@ fn append_answer(
     ensures err { OnErr result (out.new.items ≡ out.old.items) }
 {
     let mut text = Vec::new(alloc);
-    answer(alloc, history, stops, command, &mut text)?;
+    answer(history, stops, command, &mut text)?;
     out.extend_from_slice(&text)
 }
 

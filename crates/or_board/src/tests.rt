@@ -124,7 +124,7 @@ fn both_ends(
     } = closed;
     let turns = schedule.len() as u64;
     let mut text = Vec::new(alloc);
-    let console = report(alloc, cores.as_slice(), bus, turns, &mut text)?;
+    let console = report(cores.as_slice(), bus, turns, &mut text)?;
     let Ok(mut board) = Board::open(alloc, config, image, Vec::new(alloc)) else {
         return Err("opening".into());
     };
@@ -133,7 +133,7 @@ fn both_ends(
     }
     let (cores, bus) = board.into_parts();
     let mut again = Vec::new(alloc);
-    let shown = report(alloc, cores.as_slice(), bus, turns, &mut again)?;
+    let shown = report(cores.as_slice(), bus, turns, &mut again)?;
     Ok([text, console, again, shown])
 }
 

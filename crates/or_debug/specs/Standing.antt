@@ -1,6 +1,7 @@
 -- How the debugger stands on a schedule.
 use Rattle.std.specs.Prelude.{◌≡◌, ◌≤◌, ℕ, ◌+◌, List, ◌++◌, Some, length, map}
 use Rattle.circular_buffer.specs.Buffer.{Buffer, buffer}
+use Rattle.or_words.specs.declared.limits.TheConstants.{LAST_TURNS}
 use Rattle.or_script.specs.declared.command.Command.{Command}
 use Rattle.or_model.specs.Core.{Core}
 use Rattle.or_model.specs.Turn.{Board, replay}
@@ -30,7 +31,7 @@ pub record IsAfter (start : Board) (turns : List ℕ) (n : ℕ) (cores : List Co
 -- and the ring has the last 64 of these turns
 pub record Reaches (start : Board) (turns : List ℕ) (n : ℕ) (last : Buffer MadeTurn) (cores : List Core) (bus : BusState) : Type 0 where
   pub board : IsAfter start turns n cores bus
-  pub ring : last ≡ buffer (last_of 64 (turns_made start turns n)) 64
+  pub ring : last ≡ buffer (last_of LAST_TURNS (turns_made start turns n)) LAST_TURNS
 
 -- the turn at a place of the schedule was made
 pub record IsTurnMade (start : Board) (turns : List ℕ) (place : ℕ) (made : MadeTurn) (cores : List Core) (bus : BusState) : Type 0 where

@@ -32,7 +32,7 @@ fn append_answer(
     ensures config { board.new.config ≡ board.old.config }
 {
     let mut text = Vec::new(alloc);
-    debugger.answer(alloc, board, turns, command, &mut text)?;
+    debugger.answer(board, turns, command, &mut text)?;
     out.extend_from_slice(&text)
 }
 

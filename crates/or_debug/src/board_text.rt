@@ -7,20 +7,17 @@ ghost use Rattle.or_debug.specs.BoardText.{registers_text, memory_text, word_lin
 
 use or_replay::{Board, core_text};
 use or_text::{append_decimal, append_word};
-use std::alloc::{AllocError, Global};
+use std::alloc::AllocError;
 
 /// Appends the block of a core, or nothing where the board has no such core.
 #[tactic(auto, unfolding(crate::specs::BoardText::registers_text))]
-pub fn append_registers(
-    alloc: Global,
-    board: &Board,
-    core: u32,
-    text: &mut Vec<u8>,
-) -> Result<(), AllocError>
-    ensures { OnOk result ((now : BoardModel) → IsBoard board.now.cores board.now.bus now → text.new.items ≡ text.old.items ++ registers_text now core) }
+pub fn append_registers(board: &Board, core: u32, text: &mut Vec<u8>) -> Result<(), AllocError>
+    ensures text { OnOk result ((now : BoardModel) → IsBoard board.now.cores board.now.bus now → text.new.items ≡ text.old.items ++ registers_text now core) }
+    ensures full { OnErr result ((now : BoardModel) → IsBoard board.now.cores board.now.bus now → vec_capacity text.old < vec_len text.old + length (registers_text now core)) }
+    ensures capacity { vec_capacity text.old ≤ vec_capacity text.new }
 {
     match board.cores().get(core as usize) {
-        Some(found) => match core_text(alloc, found, board.counts(core), text) {
+        Some(found) => match core_text(found, board.counts(core), text) {
             Ok(()) => Ok(()),
             Err(_) => Err(AllocError),
         },

@@ -1,5 +1,6 @@
 //! The debugger on a schedule.
 ghost use Rattle.std.specs.Prelude.{◌≡◌, ◌<◌, ◌≤◌, ◌+◌, ◌++◌, ℕ, List, [], length, codes, decimal, OnOk, OnErr, IfOk, vec_capacity, vec_len};
+ghost use Rattle.or_words.specs.declared.limits.TheConstants.{LAST_TURNS};
 ghost use Rattle.or_script.specs.declared.command.Command.TheVariants.{Go, Turn};
 ghost use Rattle.or_script.specs.Last.{HasFewTurns};
 ghost use Rattle.circular_buffer.specs.Buffer.{buffer};
@@ -14,10 +15,8 @@ use circular_buffer::HeapCircularBuffer;
 use or_replay::Board;
 use or_script::Command;
 use or_text::append_decimal;
+use or_words::limits::LAST_TURNS;
 use std::alloc::{AllocError, Global};
-
-/// How many of the last turns are kept.
-const LAST_TURNS: usize = 64;
 
 /// How far the schedule was followed, the points that were set, and the last 64 turns.
 #[derive(Drop)]
@@ -43,7 +42,7 @@ impl Debugger {
     pub(crate) fn new(alloc: Global) -> Result<Debugger, AllocError>
         ensures state { IfOk result (λ debugger. state_of debugger ≡ first_state) }
         ensures seen { IfOk result (λ debugger. (ram : List ℕ) → HasSeen ram debugger.stops) }
-        ensures last { IfOk result (λ debugger. debugger.last ≡ buffer [] 64) }
+        ensures last { IfOk result (λ debugger. debugger.last ≡ buffer [] LAST_TURNS) }
     {
         let last = HeapCircularBuffer::with_capacity(alloc, LAST_TURNS)?;
         Ok(Debugger {
@@ -143,7 +142,6 @@ impl Debugger {
     // Does what a command says, and makes its text.
     pub(crate) fn answer(
         &mut self,
-        alloc: Global,
         board: &mut Board,
         turns: &[u8],
         command: Command,
@@ -164,7 +162,7 @@ impl Debugger {
             Command::Break { core, pc } => self.stops.set_break(core, pc),
             Command::Watch { address } => self.stops.set_watch(board, address),
             Command::Stores { address } => self.stops.set_store(board, address),
-            Command::Registers { core } => append_registers(alloc, board, core, text),
+            Command::Registers { core } => append_registers(board, core, text),
             Command::Memory { address, words } => append_memory(board, address, words, text),
             Command::Lines { core } => append_lines(board, core, text),
             Command::Last { turns: count } => append_last(&self.last, count, text),

@@ -1,6 +1,6 @@
 use Rattle.std.proofs.Common.{◌∙◌}
 use Rattle.or_debug.specs.Standing.{state_of}
-use Rattle.or_debug.proofs.Results.{on_err_always}
+use Rattle.or_text.proofs.Kept.{on_err_always}
 use Rattle.or_debug.proofs.Sessions.{up_to_more, up_to_some, up_to_all}
 use Rattle.or_debug.proofs.answering.append_answers.Goals as goal
 

@@ -1,5 +1,5 @@
 use Rattle.std.proofs.lemmas.Result.{on_ok_weaker, on_err_weaker}
-use Rattle.or_debug.proofs.Results.{on_err_always}
+use Rattle.or_text.proofs.Kept.{on_err_always}
 use Rattle.or_debug.proofs.Sessions.{nothing_run, fresh, run_all, run_some}
 use Rattle.or_debug.proofs.answering.run.Goals as goal
 

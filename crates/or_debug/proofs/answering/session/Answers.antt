@@ -1,4 +1,4 @@
-use Rattle.or_debug.proofs.Results.{on_err_always}
+use Rattle.or_text.proofs.Kept.{on_err_always}
 use Rattle.or_debug.proofs.Sessions.{nothing_written}
 use Rattle.or_debug.proofs.answering.session.Goals as goal
 

@@ -1,5 +1,5 @@
 use Rattle.std.proofs.Common.{◌∙◌, sym, ap, ◌++◌, length, length-append, append-nil, rules, arith}
-use Rattle.or_debug.proofs.Results.{on_err_always}
+use Rattle.or_text.proofs.Kept.{on_err_always}
 use Rattle.or_debug.proofs.Texts.{indexes_none, index_fits}
 use Rattle.or_debug.specs.BoardText.{index_line, index_lines}
 use Rattle.or_debug.proofs.board_text.append_indexes.Goals as goal

@@ -1,7 +1,7 @@
 use Rattle.std.proofs.Common.{◌∙◌, ap, ◌++◌, length, length-append, refl, rules, arith}
 use Rattle.or_replay.specs.Board.{BoardState}
 use Rattle.or_debug.specs.BoardText.{memory_text, word_line}
-use Rattle.or_debug.proofs.Results.{on_err_always}
+use Rattle.or_text.proofs.Kept.{on_err_always}
 use Rattle.or_debug.proofs.Texts.{word_more, word_fits}
 use Rattle.or_debug.proofs.board_text.append_memory.Goals as goal
 

@@ -4,7 +4,7 @@ use Rattle.std.proofs.lemmas.List.Folds.{length-flat_map-take}
 use Rattle.or_debug.specs.Hits.{change_line}
 use Rattle.or_debug.specs.Standing.{seen_line}
 use Rattle.or_debug.specs.declared.points.Watchpoint.{Watchpoint}
-use Rattle.or_debug.proofs.Results.{on_err_always}
+use Rattle.or_text.proofs.Kept.{on_err_always}
 use Rattle.or_debug.proofs.points.append_changes.Goals as goal
 
 pub returns-in_err-append_change-clause-full : goal.returns-in_err-append_change-clause-full

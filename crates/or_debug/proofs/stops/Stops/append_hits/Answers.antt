@@ -2,7 +2,7 @@ use Rattle.std.proofs.Common.{◌∙◌, ◌++◌, ap, length, length-append, ar
 use Rattle.std.specs.List.{flat_map}
 use Rattle.or_debug.specs.Hits.{break_line}
 use Rattle.or_debug.specs.Standing.{seen_line, seen_store}
-use Rattle.or_debug.proofs.Results.{on_err_always}
+use Rattle.or_text.proofs.Kept.{on_err_always}
 use Rattle.or_debug.proofs.Seen.{hits_written, hits_long}
 use Rattle.or_debug.proofs.stops.Stops.append_hits.Goals as goal
 
