@@ -151,12 +151,12 @@ one_ranking lines one other is also =
     one_order one other (in_order one is.order) (in_order other also.order)
     (λ p. sum_by-IsPermutation (λ (l : Line). cond (p l) 1 0) lines one is.same ∙ sym (sum_by-IsPermutation (λ (l : Line). cond (p l) 1 0) lines other also.same))
 
-one_core : (symbols : SymbolTable) (core steps : ℕ) (count : Option ℕ → ℕ) (text other : List ℕ) → IsCoreText symbols core steps count text → IsCoreText symbols core steps count other → text ≡ other
+pub one_core : (symbols : SymbolTable) (core steps : ℕ) (count : Option ℕ → ℕ) (text other : List ℕ) → IsCoreText symbols core steps count text → IsCoreText symbols core steps count other → text ≡ other
 one_core symbols core steps count text other is also =
     is.is ∙ (ap (λ (l : List Line). core_line core steps ++ (flat_map (line_text symbols) l ++ outside_text (count None))) (one_ranking (lines_of count symbols.functions) is.lines also.lines is.ranked also.ranked)
     ∙ sym also.is)
 
-one_behind : (symbols : SymbolTable) (additions : List Addition) (cores : ℕ) (text other : List ℕ) → AreCoreTexts symbols additions cores text → AreCoreTexts symbols additions cores other → text ≡ other
+pub one_behind : (symbols : SymbolTable) (additions : List Addition) (cores : ℕ) (text other : List ℕ) → AreCoreTexts symbols additions cores text → AreCoreTexts symbols additions cores other → text ≡ other
 one_behind symbols additions zero text other is also = is ∙ sym also
 one_behind symbols additions (suc core) text other is also =
     let items = items_of core additions in

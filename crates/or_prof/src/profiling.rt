@@ -1,10 +1,12 @@
 //! The profile.
-ghost use Rattle.std.specs.Prelude.{◌≡◌, ◌<◌, ◌≤◌, ◌+◌, ◌++◌, ◌^◌, [], ◌∷◌, ◌≢◌, ℕ, List, IfOk, OnOk, OnErr, length};
+ghost use Rattle.std.specs.Prelude.{◌≡◌, ◌<◌, ◌≤◌, ◌+◌, ◌++◌, ◌^◌, [], ◌∷◌, ◌≢◌, ℕ, List, IfOk, OnOk, OnErr, length, vec_capacity, vec_len};
+ghost use Rattle.or_text.specs.Keeps.{Keeps};
 ghost use Rattle.or_prof.specs.Tally.{AreEmpty};
 ghost use Rattle.or_prof.specs.Profile.{Addition, IsProfile, steps_of, AreSized, Profiled};
 ghost use Rattle.or_prof.specs.Text.{IsProfText, AreCoreTexts, Appends};
 
 use crate::finding::Finder;
+use crate::ranking::Line;
 use crate::tallying::{Tally, count_all, size_of};
 use crate::texts::append_core;
 use or_elf::Symbols;
@@ -15,19 +17,21 @@ use std::marker::Model;
 /// How many steps each core made in each function. Contracts see the symbols and the counts of the cores.
 #[derive(Drop)]
 pub struct Profile {
-    alloc: Global,
     finder: Finder,
     tallies: Vec<Tally>,
+    // Room for a line of each function, so that no memory is asked for once the profile is open.
+    lines: Vec<Line>,
 }
 
 impl Model for Profile {
+    ghost use Rattle.std.specs.Prelude.{◌≤◌, length, vec_capacity};
     ghost use Rattle.or_prof.specs.Profile.{Profiled, AreSized};
 
     ghost Value = { Profiled };
 
     ghost view = { λ profile. record { symbols = profile.finder; cores = profile.tallies.items } };
 
-    ghost invariant = { λ profile. AreSized profile.finder profile.tallies.items };
+    ghost invariant = { λ profile. AreSized profile.finder profile.tallies.items × (length profile.finder.functions ≤ vec_capacity profile.lines) };
 }
 
 impl Profile {
@@ -42,11 +46,14 @@ impl Profile {
         let Ok(tallies) = empty_tallies(alloc, cores, size_of(symbols.functions())) else {
             return Err(NoMemory);
         };
+        let Ok(lines) = Vec::with_capacity(alloc, symbols.functions().len()) else {
+            return Err(NoMemory);
+        };
         match Finder::open(alloc, symbols) {
             Ok(finder) => Ok(Profile {
-                alloc,
                 finder,
                 tallies,
+                lines,
             }),
             Err(_) => Err(NoMemory),
         }
@@ -76,26 +83,22 @@ impl Profile {
     }
 
     /// Appends the profile: for each core a line of its steps, and a line of each function in which it made some, the
-    /// greatest count first. Errors: NoMemory, which leaves `out` as it was.
-    pub fn write(&self, out: &mut Vec<u8>) -> Result<(), NoMemory>
-        ensures text { OnOk result ((additions : List Addition) → IsProfile self.now additions
-            → Appends (IsProfText (length self.now.cores) self.now.symbols additions) out.old.items out.new.items) }
+    /// greatest count first. Errors: NoMemory, only where `out` lacks capacity for the text, and then its bytes are as before.
+    pub fn write(&mut self, out: &mut Vec<u8>) -> Result<(), NoMemory>
+        ensures text { OnOk result ((additions : List Addition) → IsProfile self.old additions
+            → Appends (IsProfText (length self.old.cores) self.old.symbols additions) out.old.items out.new.items) }
         ensures no_memory { OnErr result (out.new.items ≡ out.old.items) }
+        ensures full { OnErr result ((additions : List Addition) → IsProfile self.old additions
+            → (text : List ℕ) → IsProfText (length self.old.cores) self.old.symbols additions text → vec_capacity out.old < vec_len out.old + length text) }
+        ensures same { self.new ≡ self.old }
     {
-        let mut text = Vec::new(self.alloc);
-        if append_profile(
-            self.alloc,
-            self.finder.symbols(),
-            self.tallies.as_slice(),
-            &mut text,
-        )
-        .is_err()
-        {
-            return Err(NoMemory);
-        }
-        match out.extend_from_slice(&text) {
+        let before = out.len();
+        match append_profile(self.finder.symbols(), &self.tallies, &mut self.lines, out) {
             Ok(()) => Ok(()),
-            Err(_) => Err(NoMemory),
+            Err(_) => {
+                out.truncate(before);
+                Err(NoMemory)
+            }
         }
     }
 }
@@ -111,20 +114,25 @@ fn empty_tallies(alloc: Global, cores: u32, size: usize) -> Result<Vec<Tally>, A
     Ok(tallies)
 }
 
-// Appends the text of these cores.
+// Appends the text of these cores. The list of lines has room for one of each function.
 fn append_profile(
-    alloc: Global,
     symbols: &Symbols,
     tallies: &[Tally],
+    lines: &mut Vec<Line>,
     out: &mut Vec<u8>,
 ) -> Result<(), AllocError>
-    requires { AreSized symbols.now tallies.now }
-    ensures { OnOk result ((additions : List Addition) → IsProfile (record { symbols = symbols.now; cores = tallies.now }) additions
+    requires sized { AreSized symbols.now tallies.now }
+    requires room { length symbols.now.functions ≤ vec_capacity lines.old }
+    ensures text { OnOk result ((additions : List Addition) → IsProfile (record { symbols = symbols.now; cores = tallies.now }) additions
         → Appends (IsProfText (length tallies.now) symbols.now additions) out.old.items out.new.items) }
+    ensures full { OnErr result ((additions : List Addition) → IsProfile (record { symbols = symbols.now; cores = tallies.now }) additions
+        → (text : List ℕ) → IsProfText (length tallies.now) symbols.now additions text → vec_capacity out.old < vec_len out.old + length text) }
+    ensures kept { Keeps out.old.items out.new.items }
+    ensures room { vec_capacity lines.old ≤ vec_capacity lines.new }
 {
     out.extend_from_slice(b"orprof 1\n")?;
     for (core, tally) in tallies.iter().enumerate() {
-        append_core(alloc, symbols, core, tally, out)?;
+        append_core(symbols, core, tally, lines, out)?;
     }
     Ok(())
 }

@@ -1,11 +1,11 @@
 // The lines of a core in their order.
-ghost use Rattle.std.specs.Prelude.{◌≡◌, IfOk, length};
+ghost use Rattle.std.specs.Prelude.{◌≡◌, ◌≤◌, ◌<◌, OnOk, OnErr, length, vec_capacity};
 ghost use Rattle.or_prof.specs.Tally.{AreBelow, count_in};
 ghost use Rattle.or_prof.specs.Text.{lines_of, AreRanked};
 
 use crate::tallying::Tally;
 use or_elf::Symbol as Function;
-use std::alloc::{AllocError, Global};
+use std::alloc::AllocError;
 use std::cmp::Reverse;
 
 // How many items a function has, and its index.
@@ -15,12 +15,14 @@ pub struct Line {
     pub index: u32,
 }
 
-// The lines of the functions that have a count, in the order of the symbol table.
-fn lines(alloc: Global, functions: &[Function], tally: &Tally) -> Result<Vec<Line>, AllocError>
+// Makes the lines of the functions that have a count, in the order of the symbol table.
+fn fill(functions: &[Function], tally: &Tally, lines: &mut Vec<Line>) -> Result<(), AllocError>
     requires { AreBelow (length tally.now.by_index) functions.now }
-    ensures { IfOk result (λ lines. lines.items ≡ lines_of (count_in tally.now) functions.now) }
+    ensures lines { OnOk result (lines.new.items ≡ lines_of (count_in tally.now) functions.now) }
+    ensures full { OnErr result (vec_capacity lines.old < length functions.now) }
+    ensures capacity { vec_capacity lines.old ≤ vec_capacity lines.new }
 {
-    let mut lines = Vec::new(alloc);
+    lines.clear();
     for function in functions {
         let count = tally.inside(function.index);
         if count > 0 {
@@ -30,15 +32,17 @@ fn lines(alloc: Global, functions: &[Function], tally: &Tally) -> Result<Vec<Lin
             })?;
         }
     }
-    Ok(lines)
+    Ok(())
 }
 
-// These lines, ranked: the greatest count first, and of equal counts the least index.
-pub fn ranked(alloc: Global, functions: &[Function], tally: &Tally) -> Result<Vec<Line>, AllocError>
+// Makes these lines, ranked: the greatest count first, and of equal counts the least index.
+pub fn rank(functions: &[Function], tally: &Tally, lines: &mut Vec<Line>) -> Result<(), AllocError>
     requires { AreBelow (length tally.now.by_index) functions.now }
-    ensures { IfOk result (λ lines. AreRanked (lines_of (count_in tally.now) functions.now) lines.items) }
+    ensures ranked { OnOk result (AreRanked (lines_of (count_in tally.now) functions.now) lines.new.items) }
+    ensures full { OnErr result (vec_capacity lines.old < length functions.now) }
+    ensures capacity { vec_capacity lines.old ≤ vec_capacity lines.new }
 {
-    let mut lines = lines(alloc, functions, tally)?;
+    fill(functions, tally, lines)?;
     lines.sort_unstable_by_key(|line| (Reverse(line.count), line.index));
-    Ok(lines)
+    Ok(())
 }

@@ -1,19 +1,16 @@
 -- The text of a report.
-use Rattle.std.specs.Prelude.{Bool, true, false, ℕ, ◌+◌, ◌%◌, ◌≡◌, List, [], ◌∷◌, ◌++◌, Option, Some, None, length, codes, decimal}
+use Rattle.std.specs.Prelude.{Bool, true, false, ℕ, ◌≡◌, List, [], ◌∷◌, ◌++◌, Option, Some, None, length, codes, decimal}
 use Rattle.std.specs.List.{flat_map}
 use Rattle.or_text.specs.Hexadecimal.{word_text}
+use Rattle.or_text.specs.Letters.{core_letter}
 use Rattle.or_elf.specs.Symbols.{SymbolTable, place_text, object_text}
 use Rattle.or_race.specs.declared.line.Line.{Line}
 use Rattle.or_race.specs.Event.{Event}
 use Rattle.or_race.specs.Race.{IsReport}
 
--- a core's letter: `a` for core 0
-abbrev pub letter : ℕ → ℕ
-letter core = 97 + core % 26
-
 -- a turn and a core
 abbrev pub access_text : ℕ → ℕ → List ℕ
-access_text turn core = codes " " ++ decimal turn ++ codes " " ++ letter core ∷ []
+access_text turn core = codes " " ++ decimal turn ++ codes " " ++ core_letter core ∷ []
 
 -- a pc, and the function that it lies in
 abbrev pub pc_text : SymbolTable → ℕ → List ℕ

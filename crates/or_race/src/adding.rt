@@ -12,8 +12,7 @@ use std::collections::BTreeMap;
 
 impl Races {
     /// No accesses, of so many cores, at most 8. With `locks` a plain store releases its word as a conditional store does, and
-    /// no races are reported on the words that an l.lwa or an l.swa accesses. It takes no memory; `add` and `write` take it
-    /// from `alloc`.
+    /// no races are reported on the words that an l.lwa or an l.swa accesses. It takes no memory; `add` takes it from `alloc`.
     pub fn new(alloc: Global, cores: u32, locks: bool) -> Races
         requires { cores ≤ 8 }
         ensures none { Records locks result [] }
@@ -21,7 +20,6 @@ impl Races {
         ensures last { last_of result ≡ 0 }
     {
         Races {
-            alloc,
             locks,
             cores,
             last: 0,

@@ -2,14 +2,12 @@
 ghost use Rattle.std.specs.Prelude.{◌≡◌, ◌≤◌};
 
 use crate::word::{VectorClock, Word};
-use std::alloc::Global;
 use std::collections::BTreeMap;
 
 /// The accesses of a schedule so far: a vector clock for each core and, for each word, the clock that was released on it, each
 /// core's last access of each kind, and the first race that was found on it.
 #[derive(Drop)]
 pub struct Races {
-    pub(crate) alloc: Global,
     pub(crate) locks: bool,
     pub(crate) cores: u32,
     pub(crate) last: u64,

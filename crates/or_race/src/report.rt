@@ -5,33 +5,28 @@ ghost use Rattle.or_race.specs.Event.{Event};
 ghost use Rattle.or_race.specs.Lines.{reported_line, found_lines};
 ghost use Rattle.or_race.specs.Records.{Records};
 ghost use Rattle.or_elf.specs.Symbols.{SymbolTable};
-ghost use Rattle.or_race.specs.Text.{letter, access_text, pc_text, places_text, line_text, lines_text, head_text, race_report_text, RaceText};
+ghost use Rattle.or_text.specs.Keeps.{Keeps};
+ghost use Rattle.or_race.specs.Text.{access_text, pc_text, places_text, line_text, lines_text, head_text, race_report_text, RaceText};
 
 use crate::line::Line;
 use crate::races::Races;
 use crate::word::Word;
 use or_elf::Symbols;
-use or_text::{append_decimal, append_word};
+use or_text::{append_decimal, append_word, core_letter};
 use or_words::NoMemory;
-use std::alloc::{AllocError, Global};
+use std::alloc::AllocError;
 use std::collections::BTreeMap;
-
-// The letter of a core, `a` for core 0.
-fn letter_of(core: u32) -> u8
-    ensures { result ≡ letter core }
-{
-    b'a' + (core % 26) as u8
-}
 
 // Appends the turn and the core of an access.
 fn append_access(turn: u64, core: u32, out: &mut Vec<u8>) -> Result<(), AllocError>
     ensures text { OnOk result (out.new.items ≡ out.old.items ++ access_text turn core) }
     ensures full { OnErr result (vec_capacity out.old < vec_len out.old + length (access_text turn core)) }
     ensures capacity { vec_capacity out.old ≤ vec_capacity out.new }
+    ensures kept { Keeps out.old.items out.new.items }
 {
     out.extend_from_slice(b" ")?;
     append_decimal(turn, out)?;
-    out.extend_from_slice(&[b' ', letter_of(core)])
+    out.extend_from_slice(&[b' ', core_letter(core)])
 }
 
 // Appends a pc, and the function that it lies in.
@@ -39,6 +34,7 @@ fn append_pc(symbols: &Symbols, pc: u32, out: &mut Vec<u8>) -> Result<(), AllocE
     ensures text { OnOk result (out.new.items ≡ out.old.items ++ pc_text symbols.now pc) }
     ensures full { OnErr result (vec_capacity out.old < vec_len out.old + length (pc_text symbols.now pc)) }
     ensures capacity { vec_capacity out.old ≤ vec_capacity out.new }
+    ensures kept { Keeps out.old.items out.new.items }
 {
     append_word(pc, out)?;
     symbols.append_place(pc, out)
@@ -54,6 +50,7 @@ fn append_places(
     ensures text { OnOk result (out.new.items ≡ out.old.items ++ places_text symbols.now line.now) }
     ensures full { OnErr result (vec_capacity out.old < vec_len out.old + length (places_text symbols.now line.now)) }
     ensures capacity { vec_capacity out.old ≤ vec_capacity out.new }
+    ensures kept { Keeps out.old.items out.new.items }
 {
     let Some(symbols) = symbols else {
         return Ok(());
@@ -71,6 +68,7 @@ fn append_line(symbols: &Option<Symbols>, line: &Line, out: &mut Vec<u8>) -> Res
     ensures text { OnOk result (out.new.items ≡ out.old.items ++ line_text symbols.now line.now) }
     ensures full { OnErr result (vec_capacity out.old < vec_len out.old + length (line_text symbols.now line.now)) }
     ensures capacity { vec_capacity out.old ≤ vec_capacity out.new }
+    ensures kept { Keeps out.old.items out.new.items }
 {
     out.extend_from_slice(b"race ")?;
     append_word(line.word, out)?;
@@ -102,6 +100,7 @@ fn append_lines(
     ensures text { OnOk result (out.new.items ≡ out.old.items ++ lines_text symbols.now (found_lines locks (values words.now))) }
     ensures full { OnErr result (vec_capacity out.old < vec_len out.old + length (lines_text symbols.now (found_lines locks (values words.now)))) }
     ensures capacity { vec_capacity out.old ≤ vec_capacity out.new }
+    ensures kept { Keeps out.old.items out.new.items }
 {
     let _most = words.len();
     let mut count: u64 = 0;
@@ -119,6 +118,7 @@ fn append_head(locks: bool, out: &mut Vec<u8>) -> Result<(), AllocError>
     ensures text { OnOk result (out.new.items ≡ out.old.items ++ head_text locks) }
     ensures full { OnErr result (vec_capacity out.old < vec_len out.old + length (head_text locks)) }
     ensures capacity { vec_capacity out.old ≤ vec_capacity out.new }
+    ensures kept { Keeps out.old.items out.new.items }
 {
     if locks {
         out.extend_from_slice(b"orrace 1 locks\n")
@@ -137,6 +137,7 @@ fn append_report(
     ensures text { OnOk result (out.new.items ≡ out.old.items ++ race_report_text locks symbols.now (found_lines locks (values words.now))) }
     ensures full { OnErr result (vec_capacity out.old < vec_len out.old + length (race_report_text locks symbols.now (found_lines locks (values words.now)))) }
     ensures capacity { vec_capacity out.old ≤ vec_capacity out.new }
+    ensures kept { Keeps out.old.items out.new.items }
 {
     append_head(locks, out)?;
     let count = append_lines(locks, symbols, words, out)?;
@@ -145,34 +146,22 @@ fn append_report(
     out.extend_from_slice(b"\n")
 }
 
-// The report.
-fn report(
-    alloc: Global,
-    locks: bool,
-    symbols: &Option<Symbols>,
-    words: &BTreeMap<u32, Word>,
-) -> Result<Vec<u8>, AllocError>
-    ensures { IfOk result (λ text. text.items ≡ race_report_text locks symbols.now (found_lines locks (values words.now))) }
-{
-    let mut text = Vec::new(alloc);
-    append_report(locks, symbols, words, &mut text)?;
-    Ok(text)
-}
-
 impl Races {
     /// Appends the report on the accesses. Where symbols are given, each line tells where its two accesses were made. Errors:
-    /// NoMemory, and then `out` is as before.
+    /// NoMemory, only where `out` lacks capacity for the report, and then its bytes are as before.
     pub fn write(&self, symbols: &Option<Symbols>, out: &mut Vec<u8>) -> Result<(), NoMemory>
         ensures ok { OnOk result ((locks : Bool) (events : List Event) → Records locks self.now events → (text : List ℕ) × RaceText locks symbols.now events text × (out.new.items ≡ out.old.items ++ text)) }
         ensures err { OnErr result (out.new.items ≡ out.old.items) }
+        ensures full { OnErr result ((locks : Bool) (events : List Event) → Records locks self.now events → (text : List ℕ) × RaceText locks symbols.now events text × (vec_capacity out.old < vec_len out.old + length text)) }
     {
         let _words = self.words.len();
-        let Ok(text) = report(self.alloc, self.locks, symbols, &self.words) else {
-            return Err(NoMemory);
-        };
-        match out.extend_from_slice(&text) {
+        let before = out.len();
+        match append_report(self.locks, symbols, &self.words, out) {
             Ok(()) => Ok(()),
-            Err(_) => Err(NoMemory),
+            Err(_) => {
+                out.truncate(before);
+                Err(NoMemory)
+            }
         }
     }
 }
