@@ -39,9 +39,7 @@ fn seat_all(
     ensures len { IfOk result (λ units. vec_len units ≡ cores) }
     ensures each { IfOk result (λ units. (n : ℕ) (d : _) → n < cores → Fresh top.now.table_id first.me.0.settings n (slice_index_or units.items n d)) }
 {
-    let Ok(mut units) = Vec::with_capacity(alloc, cores as usize) else {
-        return Err(NoMemory);
-    };
+    let mut units = Vec::with_capacity(alloc, cores as usize)?;
     let mut seat = first;
     for number in 0..cores {
         enrol(top, &mut seat);
@@ -60,15 +58,9 @@ fn first_transfer(alloc: Global, config: &Config, bus: Bus) -> Result<Transfer, 
     ensures room { IfOk result (λ transfer. (config.now.cores * config.now.budget ≤ vec_capacity transfer.schedule) × (config.now.cores * config.now.budget / BLOCK ≤ vec_capacity transfer.marks)) }
 {
     let turns = config.cores as usize * config.budget as usize;
-    let Ok(schedule) = Vec::with_capacity(alloc, turns) else {
-        return Err(NoMemory);
-    };
-    let Ok(marks) = Vec::with_capacity(alloc, turns / BLOCK) else {
-        return Err(NoMemory);
-    };
-    let Ok(bus) = Box::new(alloc, bus) else {
-        return Err(NoMemory);
-    };
+    let schedule = Vec::with_capacity(alloc, turns)?;
+    let marks = Vec::with_capacity(alloc, turns / BLOCK)?;
+    let bus = Box::new(alloc, bus)?;
     Ok(Transfer {
         bus,
         schedule,
@@ -88,9 +80,7 @@ fn share(
 {
     let (row, bus) = board.into_parts();
     let transfer = first_transfer(alloc, &opened.config, bus)?;
-    let Ok(mut slots) = Vec::with_capacity(alloc, 1) else {
-        return Err(NoMemory);
-    };
+    let mut slots = Vec::with_capacity(alloc, 1)?;
     slots.push_reserved(Some(transfer));
     let Ok((table, first)) = Table::new(alloc, &[0, 0, 0], slots, opened) else {
         return Err(NoMemory);

@@ -36,5 +36,5 @@ new-requires c =
       schedule_room = t.room.0;
       marks_room = t.room.1;
     } in
-    let slots : c.push_reserved.new.self.items ≡ Some transfer ∷ [] = c.push_reserved.ensures.items ∙ ap (λ (xs : List (Option Transfer)). xs ++ Some transfer ∷ []) c.in-Ok.ensures.items in
+    let slots : c.push_reserved.new.self.items ≡ Some transfer ∷ [] = c.push_reserved.ensures.items ∙ ap (λ (xs : List (Option Transfer)). xs ++ Some transfer ∷ []) c.in_ok-slots.ensures.items in
     subst (λ (xs : List (Option Transfer)). Turns k (opening (0 ∷ 0 ∷ 0 ∷ []) xs (first_view k))) (sym slots) (starts k transfer c.requires.fits holds)
