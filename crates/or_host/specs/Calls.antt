@@ -1,5 +1,6 @@
 -- What each call of a host does.
 use Rattle.std.specs.Prelude.{◌≡◌, ◌≢◌, ◌≤◌, ◌+◌, ℕ, List, [], ◌∷◌, length, Option, Some, Result, Ok, Err, IfSome}
+use Rattle.or_words.specs.declared.limits.TheConstants.{NAME_LIMIT}
 use Rattle.or_host.specs.declared.host.LoadFail.{LoadFail}
 use Rattle.or_host.specs.declared.host.LoadFail.TheVariants.{Failed, TooLong, NoMemory}
 use Rattle.or_host.specs.Bytes.{Adds, AddsPrefix}
@@ -11,7 +12,7 @@ dash = 45 ∷ []
 
 -- a name that may be loaded, created or appended to
 pub record IsName (name : List ℕ) : Type 0 where
-  pub short : length name ≤ 4095
+  pub short : length name ≤ NAME_LIMIT
   pub no_dash : name ≢ dash
 
 -- Of a file of which this is told, a load takes all bytes where they are at most `max`, `max + 1` of them where it is too long,

@@ -3,6 +3,7 @@ use Rattle.std.specs.Prelude.{◌≡◌, ◌<◌, ◌+◌, ℕ, List, length, ta
 use Rattle.std.specs.Io.KnownBytes.{Appends}
 use Rattle.or_host.specs.declared.host.LoadFail.{LoadFail}
 use Rattle.or_host.specs.declared.host.LoadFail.TheVariants.{Failed, TooLong, NoMemory}
+use Rattle.or_host.specs.declared.whole.TheConstants.{CHUNK}
 use Rattle.or_host.specs.Bytes.{IsPrefix}
 use Rattle.or_host.specs.Told.{Content, TellsStep, TellsSame, AddsToFile}
 
@@ -22,12 +23,12 @@ abbrev pub AddsSome : {E : Type 0} → Result ℕ E → List ℕ → Option Cont
 AddsSome (Ok count) bytes old new = TellsStep (AddsToFile (take count bytes)) old new
 AddsSome (Err _) bytes old new = TellsSame old new
 
--- A load runs out of memory only where the list had no room for the next 4096 bytes.
+-- A load runs out of memory only where the list had no room for the next bytes that are read at a time.
 abbrev pub LacksRoom : {U : Type 0} → Result U LoadFail → ℕ → List ℕ → Type 0
 LacksRoom (Ok _) room into = ⊤
 LacksRoom (Err TooLong) room into = ⊤
 LacksRoom (Err Failed) room into = ⊤
-LacksRoom (Err NoMemory) room into = room < length into + 4096
+LacksRoom (Err NoMemory) room into = room < length into + CHUNK
 
 -- known bytes grew by a prefix of these
 pub record AppendsPrefix (bytes : List ℕ) (old new : Option (List ℕ)) : Type 0 where

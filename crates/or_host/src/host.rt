@@ -9,6 +9,7 @@ ghost use Rattle.or_host.specs.HostState.{HostState};
 ghost use Rattle.or_host.specs.Calls.{IsName, dash, Takes, Empties, Extends, Emits};
 
 use arrayvec::ArrayString;
+use or_words::limits::NAME_LIMIT;
 use std::marker::Model;
 use thiserror::Error;
 
@@ -43,7 +44,7 @@ pub enum Operation {
 #[derive(Drop)]
 pub struct Blame {
     pub operation: Operation,
-    pub name: ArrayString<4095>,
+    pub name: ArrayString<NAME_LIMIT>,
 }
 
 impl Model for Blame {

@@ -9,6 +9,9 @@ ghost use Rattle.or_host.specs.Named.{Sends, LacksRoom};
 use crate::{Failed, LoadFail, NamedFiles};
 use std::io::{Read, Write};
 
+/// How many bytes of a file are read at a time.
+pub const CHUNK: usize = 4096;
+
 // Opens a file and reads it whole.
 pub(crate) fn load_named<F: NamedFiles>(
     files: &mut F,
@@ -34,10 +37,10 @@ fn read_whole<F: Read>(file: &mut F, max: usize, into: &mut Vec<u8>) -> Result<(
     ensures taken { Takes result (option_map Some (F.remaining file.old)) max into.new.items }
     ensures full { LacksRoom result (vec_capacity into.old) into.new.items }
 {
-    let mut buffer = [0u8; 4096];
+    let mut buffer = [0u8; CHUNK];
     while into.len() <= max {
         let left = max - into.len();
-        let wanted = if left < 4095 { left + 1 } else { 4096 };
+        let wanted = if left < CHUNK { left + 1 } else { CHUNK };
         let Ok(taken) = file.read(&mut buffer[..wanted]) else {
             return Err(LoadFail::Failed);
         };

@@ -3,6 +3,7 @@ use Rattle.std.specs.Prelude.{ℕ, ◌+◌, ◌*◌, ◌%◌, ◌^◌, ◌==◌,
 use Rattle.std.specs.List.{slice_split}
 use Rattle.std.specs.Str.{bytes_eq}
 use Rattle.or_words.specs.declared.Config.{Config}
+use Rattle.or_words.specs.declared.limits.TheConstants.{LAST_TURNS, MOST_SHOWN_WORDS}
 use Rattle.or_words.specs.Settings.{ram_bytes}
 use Rattle.or_script.specs.declared.command.Command.{Command}
 use Rattle.or_script.specs.declared.command.Command.TheVariants.{Nothing, Go, Turn, Break, Watch, Stores, Registers, Memory, Lines, Last}
@@ -22,7 +23,7 @@ abbrev pub turn_line : ℕ → Result Command LineFault
 turn_line n = in_range (nat_le 1 n && is_word n) (Turn n)
 
 abbrev pub last_line : ℕ → Result Command LineFault
-last_line n = in_range (nat_le 1 n && nat_le n 64) (Last n)
+last_line n = in_range (nat_le 1 n && nat_le n LAST_TURNS) (Last n)
 
 -- the address of a word of RAM
 abbrev pub is_word_of_ram : Config → ℕ → Bool
@@ -49,10 +50,10 @@ are_of_board config (Some core) = nat_lt core config.cores
 abbrev pub break_line : Config → Option ℕ → ℕ → Result Command LineFault
 break_line config core pc = in_range (are_of_board config core && is_word pc) (Break core pc)
 
--- 1 to 256 words of RAM
+-- words of RAM, at least one
 abbrev pub memory_line : Config → ℕ → ℕ → Result Command LineFault
 memory_line config address words =
-    in_range (address % 4 == 0 && is_word address && nat_le 1 words && nat_le words 256 && nat_le (address + 4 * words) (ram_bytes config)) (Memory address words)
+    in_range (address % 4 == 0 && is_word address && nat_le 1 words && nat_le words MOST_SHOWN_WORDS && nat_le (address + 4 * words) (ram_bytes config)) (Memory address words)
 
 -- the line, where its operands are numbers
 abbrev pub with_one : Option ℕ → (ℕ → Result Command LineFault) → Result Command LineFault

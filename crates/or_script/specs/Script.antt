@@ -2,6 +2,7 @@
 use Rattle.std.specs.Prelude.{◌≡◌, ℕ, ◌+◌, ◌≤◌, ◌==◌, nat_lt, if◌then◌else◌, List, [], ◌∷◌, ◌++◌, Option, Some, None, Result, Ok, Err}
 use Rattle.std.specs.List.{slice_split}
 use Rattle.or_words.specs.declared.Config.{Config}
+use Rattle.or_words.specs.declared.limits.TheConstants.{MOST_POINTS}
 use Rattle.or_script.specs.declared.command.Command.{Command}
 use Rattle.or_script.specs.declared.command.Command.TheVariants.{Nothing, Go, Turn, Break, Watch, Stores, Registers, Memory, Lines, Last}
 use Rattle.or_script.specs.declared.command.LineFault.{LineFault}
@@ -28,13 +29,13 @@ points_after points (Lines core) = points
 points_after points (Last n) = points
 
 abbrev pub AreFew : Points → Type 0
-AreFew points = (points.breaks ≤ 16) × ((points.watches ≤ 16) × (points.stores ≤ 16))
+AreFew points = (points.breaks ≤ MOST_POINTS) × ((points.watches ≤ MOST_POINTS) × (points.stores ≤ MOST_POINTS))
 
--- there is room for 16 points of each kind
+-- there is room for so many points of each kind
 abbrev pub with_room : Points → Command → Result Command LineFault
-with_room points (Break core pc) = if nat_lt points.breaks 16 then Ok (Break core pc) else Err line_fault.OutOfRange
-with_room points (Watch address) = if nat_lt points.watches 16 then Ok (Watch address) else Err line_fault.OutOfRange
-with_room points (Stores address) = if nat_lt points.stores 16 then Ok (Stores address) else Err line_fault.OutOfRange
+with_room points (Break core pc) = if nat_lt points.breaks MOST_POINTS then Ok (Break core pc) else Err line_fault.OutOfRange
+with_room points (Watch address) = if nat_lt points.watches MOST_POINTS then Ok (Watch address) else Err line_fault.OutOfRange
+with_room points (Stores address) = if nat_lt points.stores MOST_POINTS then Ok (Stores address) else Err line_fault.OutOfRange
 with_room points Nothing = Ok Nothing
 with_room points Go = Ok Go
 with_room points (Turn n) = Ok (Turn n)

@@ -7,7 +7,7 @@ ghost use Rattle.or_script.specs.Command.{is_word_of_ram, turn_line, last_line, 
 use crate::cutting::cut;
 use crate::operands::{core_number, cores_named, number};
 use or_words::Config;
-use or_words::limits::MIB;
+use or_words::limits::{LAST_TURNS, MIB, MOST_SHOWN_WORDS};
 
 /// What a line of a script tells the debugger to do.
 #[derive(Clone, Copy, Debug, PartialEq, Eq)]
@@ -91,7 +91,7 @@ fn last_line(number: Option<u64>) -> Result<Command, LineFault>
     match number {
         None => Err(LineFault::BadCommand),
         Some(turns) => {
-            if 1 <= turns && turns <= 64 {
+            if 1 <= turns && turns <= LAST_TURNS as u64 {
                 Ok(Command::Last {
                     turns: turns as u32,
                 })
@@ -230,7 +230,7 @@ fn memory_line(
             if address % 4 == 0
                 && address < TOO_LARGE
                 && 1 <= words
-                && words <= 256
+                && words <= u64::from(MOST_SHOWN_WORDS)
                 && address + 4 * words <= ram_bytes(config)
             {
                 Ok(Command::Memory {

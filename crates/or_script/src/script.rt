@@ -10,6 +10,7 @@ use crate::command::{Command, LineFault, read_line};
 use crate::cutting::cut;
 use crate::fault::ScriptFault;
 use or_words::Config;
+use or_words::limits::MOST_POINTS;
 use std::alloc::Global;
 
 /// How many breakpoints, watchpoints and store points the lines so far give.
@@ -19,8 +20,6 @@ pub struct Points {
     pub watches: u32,
     pub stores: u32,
 }
-
-const MOST_POINTS: u32 = 16;
 
 /// The points with those of one more command.
 pub fn add_point(points: Points, command: Command) -> Points
