@@ -1,5 +1,5 @@
 -- From what a command came to, to what it answers.
-use Rattle.std.proofs.Common.{◌≡◌, ◌≢◌, ◌∙◌, sym, ap, ℕ, List, [], Option, Some, inl, inr, arith}
+use Rattle.std.proofs.Common.{◌≡◌, ◌∙◌, sym, ap, subst, ℕ, List, [], Option, Some, inl, inr, arith}
 use Rattle.or_host.specs.HostState.{HostState}
 use Rattle.or_command.specs.Leaves.{Silent}
 use Rattle.or_command.specs.Writes.{File}
@@ -7,6 +7,7 @@ use Rattle.or_command.specs.Loads.{Load, LoadsAll}
 use Rattle.or_command.specs.Said.{OnlySays, SaidLine}
 use Rattle.or_command.specs.Ends.{FailedCheck, CommandEnd, done, unread, too_long, refused, unwritten, no_memory, status_of, lines_of}
 use Rattle.or_command.specs.Outcomes.{LeavesAll, AreApart, OutcomeBy, Computes, CommandOutcome}
+use Rattle.or_command.specs.Carried.{IsCarriedOut}
 use Rattle.or_command.specs.Answered.{AnswersBy, IsDecidedBy, Answers, IsDecided, FinishEnds}
 use Rattle.or_command.proofs.OutcomesLemmas.{concluded_by}
 use Rattle.or_command.proofs.FinishingLemmas.{loaded_goes_on}
@@ -36,19 +37,19 @@ module _ (loads : List Load) (Verdict : List (List ℕ) → Option FailedCheck �
         ];
   }
 
-  end_not_two : (end : CommandEnd) (a c : HostState) → ((files : List (List ℕ)) (fault : FailedCheck) → Verdict files (Some fault) → fault.status ≢ 2)
-      → OutcomeBy loads Verdict Writes OnNoMemory end a c → status_of end ≢ 2
-  end_not_two done a c other outcome e = absurd (omega (arith, e))
-  end_not_two (unread name) a c other outcome e = absurd (omega (arith, e))
-  end_not_two (too_long name limit) a c other outcome e = absurd (omega (arith, e))
-  end_not_two (refused fault) a c other outcome e = other outcome.files fault outcome.found e
-  end_not_two (unwritten name) a c other outcome e = absurd (omega (arith, e))
-  end_not_two no_memory a c other outcome e = absurd (omega (arith, e))
+  end_carried : (end : CommandEnd) (a c : HostState) → ((files : List (List ℕ)) (fault : FailedCheck) → Verdict files (Some fault) → IsCarriedOut fault.status)
+      → OutcomeBy loads Verdict Writes OnNoMemory end a c → IsCarriedOut (status_of end)
+  end_carried done a c other outcome = (λ two. absurd (omega (arith, two)), λ same. absurd (omega (arith, same)))
+  end_carried (unread name) a c other outcome = (λ two. absurd (omega (arith, two)), λ same. absurd (omega (arith, same)))
+  end_carried (too_long name limit) a c other outcome = (λ two. absurd (omega (arith, two)), λ same. absurd (omega (arith, same)))
+  end_carried (refused fault) a c other outcome = other outcome.files fault outcome.found
+  end_carried (unwritten name) a c other outcome = (λ two. absurd (omega (arith, two)), λ same. absurd (omega (arith, same)))
+  end_carried no_memory a c other outcome = (λ two. absurd (omega (arith, two)), λ same. absurd (omega (arith, same)))
 
-  -- no check has status 2, so a command does not answer it
-  pub not_two_by : (status : ℕ) (a c : HostState) → ((files : List (List ℕ)) (fault : FailedCheck) → Verdict files (Some fault) → fault.status ≢ 2)
-      → AnswersBy loads Verdict Writes OnNoMemory status a c → status ≢ 2
-  not_two_by status a c other answers two = end_not_two answers.end a c other answers.runs.outcome (sym answers.status_is ∙ two)
+  -- no check has status 2 or 16, so a command answers neither
+  pub carried_by : (status : ℕ) (a c : HostState) → ((files : List (List ℕ)) (fault : FailedCheck) → Verdict files (Some fault) → IsCarriedOut fault.status)
+      → AnswersBy loads Verdict Writes OnNoMemory status a c → IsCarriedOut status
+  carried_by status a c other answers = subst IsCarriedOut (sym answers.status_is) (end_carried answers.end a c other answers.runs.outcome)
 
 -- the same of a command whose verdict is a function of its files
 module _ (loads : List Load) (verdict : List (List ℕ) → Option FailedCheck) (Writes : List (List ℕ) → List File → List ℕ → Type 0)
@@ -68,9 +69,9 @@ module _ (loads : List Load) (verdict : List (List ℕ) → Option FailedCheck) 
     by_long = (decided_by loads (Computes verdict) Writes OnNoMemory status a c answers).by_long;
   }
 
-  pub not_two : (status : ℕ) (a c : HostState) → ((files : List (List ℕ)) (fault : FailedCheck) → verdict files ≡ Some fault → fault.status ≢ 2)
-      → Answers loads verdict Writes OnNoMemory status a c → status ≢ 2
-  not_two status a c other answers = not_two_by loads (Computes verdict) Writes OnNoMemory status a c other answers
+  pub carried : (status : ℕ) (a c : HostState) → ((files : List (List ℕ)) (fault : FailedCheck) → verdict files ≡ Some fault → IsCarriedOut fault.status)
+      → Answers loads verdict Writes OnNoMemory status a c → IsCarriedOut status
+  carried status a c other answers = carried_by loads (Computes verdict) Writes OnNoMemory status a c other answers
 
 -- such a command that leaves all as it was where memory ran out, and writes no file that it loads
 module _ (loads : List Load) (verdict : List (List ℕ) → Option FailedCheck) (Writes : List (List ℕ) → List File → List ℕ → Type 0)

@@ -6,3 +6,4 @@ pub mod OutcomesLemmas
 pub mod CompleteLemmas
 pub mod FinishingLemmas
 pub mod AnsweredLemmas
+pub mod PiecesLemmas

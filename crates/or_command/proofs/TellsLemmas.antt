@@ -41,6 +41,11 @@ adds_none a None same = tt
 adds_none None (Some y) same = absurd same
 adds_none (Some x) (Some y) same = same ∙ sym (append-nil x)
 
+pub none_prefix : (a b : Option (List ℕ)) → TellsSame a b → TellsStep (AddsPrefix []) a b
+none_prefix a None same = tt
+none_prefix None (Some y) same = absurd same
+none_prefix (Some x) (Some y) same = record { first = []; is_prefix = record { rest = []; parts = refl }; added = same ∙ sym (append-nil x) }
+
 pub adds_then : (p q : List ℕ) (a b c : Option (List ℕ)) → TellsStep (Adds p) a b → TellsStep (Adds q) b c → TellsStep (Adds (p ++ q)) a c
 adds_then p q a b None ab bc = tt
 adds_then p q a None (Some z) ab bc = absurd bc

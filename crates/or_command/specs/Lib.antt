@@ -8,3 +8,5 @@ pub mod Ends
 pub mod Outcomes
 pub mod Finishing
 pub mod Answered
+pub mod Pieces
+pub mod Carried

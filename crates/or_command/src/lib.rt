@@ -4,6 +4,7 @@
 mod ending;
 mod loading;
 mod outcome;
+mod pieces;
 mod refusal;
 mod saying;
 mod writing;
@@ -11,5 +12,6 @@ mod writing;
 pub use ending::{conclude, say_tries, say_usage};
 pub use loading::{Input, LoadStop, Loaded, load_files};
 pub use outcome::Outcome;
+pub use pieces::{PieceStop, write_piece};
 pub use refusal::{Digests, Refusal, ScheduleDetail};
 pub use writing::{Output, write_files, write_outputs};

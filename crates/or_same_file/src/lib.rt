@@ -3,9 +3,8 @@
 
 ghost use Rattle.std.specs.Prelude.{◌≡◌, ◌∷◌, [], MatchOption, map};
 ghost use Rattle.or_host.specs.Pairs.{IsTold};
-ghost use Rattle.or_command.specs.Said.{SaidLine, OnlySays};
-ghost use Rattle.or_command_line.specs.Command.{shown_command};
-ghost use Rattle.or_same_file.specs.Pairs.{pair_of, pairs_of, pairs_behind, reads, writes, told, AreApart, IsFirst, same_file_lines};
+ghost use Rattle.or_command_line.specs.Command.{CommandModel, shown_command};
+ghost use Rattle.or_same_file.specs.Pairs.{pair_of, pairs_of, pairs_behind, reads, writes, told, AreApart, IsFirst, EndsSame};
 
 use or_command::{Outcome, Refusal, conclude};
 use or_command_line::{Command, Recorded};
@@ -33,11 +32,10 @@ pub fn find_same<'a, H: Host>(command: &Command<'a>, host: &H) -> Option<Pair<'a
     }
 }
 
-/// Says that two names lead to one file, and answers the status.
+/// Ends a command two of whose names lead to one file: says so, and answers the status.
 pub fn refuse_same<H: Host>(host: &mut H, pair: &Pair<'_>) -> u8
     ensures status { result ≡ 16 }
-    ensures said { SaidLine (same_file_lines (pair_of pair.now)) (H.state host.old) (H.state host.new) }
-    ensures only { OnlySays (H.state host.old) (H.state host.new) }
+    ensures ends { (command : CommandModel) → IsFirst (H.state host.old) (pair_of pair.now) (pairs_of command) → EndsSame command result (H.state host.old) (H.state host.new) }
 {
     conclude(
         host,
