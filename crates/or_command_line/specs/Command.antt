@@ -5,12 +5,13 @@ use Rattle.or_words.specs.Settings.{Fits}
 use Rattle.or_command_line.specs.declared.RunOptions.{RunOptions}
 use Rattle.or_command_line.specs.declared.HuntOptions.{HuntOptions}
 use Rattle.or_command_line.specs.declared.RaceOptions.{RaceOptions}
+use Rattle.or_command_line.specs.declared.TraceOptions.{TraceOptions}
 use Rattle.or_command_line.specs.declared.Workload.{Workload}
 use Rattle.or_command_line.specs.declared.Command.{Command}
-use Rattle.or_command_line.specs.declared.Command.TheVariants.{Run as IsRun, Hunt as IsHunt, Replay as IsReplay, Asm as IsAsm, Dis as IsDis, Debug as IsDebug, Gen as IsGen, Bench as IsBench, Back as IsBack, Race as IsRace, Prof as IsProf}
+use Rattle.or_command_line.specs.declared.Command.TheVariants.{Run as IsRun, Hunt as IsHunt, Replay as IsReplay, Asm as IsAsm, Dis as IsDis, Debug as IsDebug, Gen as IsGen, Bench as IsBench, Back as IsBack, Race as IsRace, Prof as IsProf, Trace as IsTrace}
 use Rattle.or_command_line.specs.Words.{is_name, differ, IsFileName}
 use Rattle.or_command_line.specs.Names.{Names, Recorded, recorded_names, run_names, hunt_names, are_recorded, is_report, are_run_names, AreRecorded, IsReport, AreWritten, IsAssembly}
-use Rattle.or_command_line.specs.Settings.{run_options_of, hunt_options_of, stay_alone_of, every_of, FitsStay, FitsHunt, FitsEvery, symbols_alone_of, race_options_of}
+use Rattle.or_command_line.specs.Settings.{run_options_of, hunt_options_of, stay_alone_of, every_of, FitsStay, FitsHunt, FitsEvery, symbols_alone_of, race_options_of, FitsTrace, trace_options_of}
 use Rattle.or_command_line.specs.Workloads.{workload_of, FitsWorkload}
 
 -- a command as contracts see it
@@ -26,6 +27,7 @@ pub data CommandModel : Type 0 where
   back : Recorded → List ℕ → ℕ → CommandModel
   race : Recorded → RaceOptions → CommandModel
   prof : Recorded → CommandModel
+  trace : Recorded → TraceOptions → CommandModel
 
 abbrev pub run_with : Names → Option RunOptions → Option CommandModel
 run_with names None = None
@@ -105,6 +107,18 @@ unfoldable pub race_of : List (List ℕ) → Option CommandModel
 race_of (image ∷ input ∷ schedule ∷ options) = race_where (record { image = image; input = input; schedule = schedule }) options
 race_of _ = None
 
+-- `IMAGE INPUT SCHED [--core N] [--from T] [--to T]`
+abbrev pub trace_with : Recorded → Option TraceOptions → Option CommandModel
+trace_with files None = None
+trace_with files (Some options) = Some (trace files options)
+
+abbrev pub trace_where : Recorded → List (List ℕ) → Option CommandModel
+trace_where files options = if are_recorded files then trace_with files (trace_options_of options) else None
+
+unfoldable pub trace_of : List (List ℕ) → Option CommandModel
+trace_of (image ∷ input ∷ schedule ∷ options) = trace_where (record { image = image; input = input; schedule = schedule }) options
+trace_of _ = None
+
 -- `IMAGE INPUT SCHED`
 abbrev pub recorded_where : Recorded → Option Recorded
 recorded_where files = if are_recorded files then Some files else None
@@ -159,6 +173,7 @@ command_of (verb ∷ words) =
     if bytes_eq verb (codes "back") then back_of words else
     if bytes_eq verb (codes "race") then race_of words else
     if bytes_eq verb (codes "prof") then as_prof (recorded_of words) else
+    if bytes_eq verb (codes "trace") then trace_of words else
     program_command verb words
 
 -- what the code's commands show
@@ -174,6 +189,7 @@ shown_command (IsBench workload schedule stay) = bench workload schedule.now sta
 shown_command (IsBack files script every) = back (recorded_names files) script.now every
 shown_command (IsRace files options) = race (recorded_names files) options
 shown_command (IsProf files) = prof (recorded_names files)
+shown_command (IsTrace files options) = trace (recorded_names files) options
 
 -- the names of a command are names of files, the written ones differ from each other one, and its numbers are in their ranges
 abbrev pub AreNamesOf : CommandModel → Type 0
@@ -188,3 +204,4 @@ AreNamesOf (bench workload schedule stay) = FitsWorkload workload × IsFileName 
 AreNamesOf (back files script every) = AreRecorded files × IsFileName script × FitsEvery every
 AreNamesOf (race files options) = AreRecorded files
 AreNamesOf (prof files) = AreRecorded files
+AreNamesOf (trace files options) = AreRecorded files × FitsTrace options

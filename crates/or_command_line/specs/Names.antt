@@ -1,10 +1,9 @@
 -- The names of files that a command line gives.
-use Rattle.std.specs.Prelude.{ℕ, List, Bool, false, ◌≡◌, ◌≢◌, ◌&&◌, codes}
-use Rattle.std.specs.Str.{bytes_eq}
+use Rattle.std.specs.Prelude.{ℕ, List, Bool, ◌≢◌, ◌&&◌}
 use Rattle.or_command_line.specs.declared.Run.{Run}
 use Rattle.or_command_line.specs.declared.Hunt.{Hunt}
 use Rattle.or_command_line.specs.declared.Recorded.{Recorded as RecordedWords}
-use Rattle.or_command_line.specs.Words.{is_name, is_input, differ, IsFileName}
+use Rattle.or_command_line.specs.Words.{is_name, is_optional, differ, IsFileName, IsOptionalName, AreDifferent}
 
 -- the files of a recorded run, with `-` for no input
 pub record Recorded : Type 0 where
@@ -12,7 +11,7 @@ pub record Recorded : Type 0 where
   pub input : List ℕ
   pub schedule : List ℕ
 
--- the files of a run
+-- the files of a run, with `-` for an input, a schedule or a report that it does without
 pub record Names : Type 0 where
   pub image : List ℕ
   pub input : List ℕ
@@ -39,35 +38,43 @@ hunt_names words = record { image = words.image.now; input = words.input.now; sc
 
 -- all words are names
 abbrev pub are_recorded : Recorded → Bool
-are_recorded files = is_name files.image && (is_input files.input && is_name files.schedule)
+are_recorded files = is_name files.image && (is_optional files.input && is_name files.schedule)
 
--- a report's name, which differs from each other one
+-- a report's name, which differs from each other one, or `-`
 abbrev pub is_report : Recorded → List ℕ → Bool
-is_report files report = is_name report && ((differ report files.image && differ report files.input) && differ report files.schedule)
+is_report files report = is_optional report && ((differ report files.image && differ report files.input) && differ report files.schedule)
 
--- a run also writes the schedule
+-- a run also writes the schedule, which may be `-` too
+abbrev pub is_written_schedule : Recorded → Bool
+is_written_schedule files = is_optional files.schedule && (differ files.schedule files.image && differ files.schedule files.input)
+
 abbrev pub are_run_names : Names → Bool
 are_run_names names =
-    (are_recorded (recorded names) && is_report (recorded names) names.report)
-    && (differ names.schedule names.image && differ names.schedule names.input)
+    (is_name names.image && is_optional names.input)
+    && (is_written_schedule (recorded names) && is_report (recorded names) names.report)
 
 -- what names are to a host: those that are written differ from each other name
 pub record AreRecorded (files : Recorded) : Type 0 where
   pub image : IsFileName files.image
-  pub input : bytes_eq files.input (codes "-") ≡ false → IsFileName files.input
+  pub input : IsOptionalName files.input
   pub schedule : IsFileName files.schedule
 
 pub record IsReport (files : Recorded) (report : List ℕ) : Type 0 where
-  pub name : IsFileName report
-  pub image : report ≢ files.image
-  pub input : report ≢ files.input
-  pub schedule : report ≢ files.schedule
+  pub name : IsOptionalName report
+  pub image : AreDifferent report files.image
+  pub input : AreDifferent report files.input
+  pub schedule : AreDifferent report files.schedule
+
+pub record IsWrittenSchedule (files : Recorded) : Type 0 where
+  pub name : IsOptionalName files.schedule
+  pub image : AreDifferent files.schedule files.image
+  pub input : AreDifferent files.schedule files.input
 
 pub record AreWritten (names : Names) : Type 0 where
-  pub files : AreRecorded (recorded names)
+  pub image : IsFileName names.image
+  pub input : IsOptionalName names.input
+  pub schedule : IsWrittenSchedule (recorded names)
   pub report : IsReport (recorded names) names.report
-  pub schedule_image : names.schedule ≢ names.image
-  pub schedule_input : names.schedule ≢ names.input
 
 -- a source, and the image that is written of it
 pub record IsAssembly (source image : List ℕ) : Type 0 where

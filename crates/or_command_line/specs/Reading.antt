@@ -8,7 +8,7 @@ use Rattle.or_text.specs.Numerals.{decimal_of}
 use Rattle.or_command_line.specs.declared.reading.Reading.{Reading}
 use Rattle.or_command_line.specs.declared.reading.Value.{Value}
 use Rattle.or_command_line.specs.declared.reading.Value.TheVariants.{Number, Latched}
-use Rattle.or_command_line.specs.Words.{texts, is_name, is_input}
+use Rattle.or_command_line.specs.Words.{texts, is_name, is_optional, differ}
 
 -- the option that was read last, or none, and the words behind what was read; or what is said of the word that is wrong
 abbrev pub SoFar : Type 0
@@ -98,11 +98,11 @@ then_file verb name (Err why) = Err why
 then_file verb name (Ok (last, [])) = Err (missing verb name)
 then_file verb name (Ok (last, word ∷ rest)) = if is_name word then Ok (last, rest) else Err (no_name verb name word)
 
--- the name of the input, or `-`
-abbrev pub then_input : List ℕ → SoFar → SoFar
-then_input verb (Err why) = Err why
-then_input verb (Ok (last, [])) = Err (missing verb (codes "INPUT"))
-then_input verb (Ok (last, word ∷ rest)) = if is_input word then Ok (last, rest) else Err (no_name verb (codes "INPUT") word)
+-- the name of a file, or `-` for none
+abbrev pub then_optional : List ℕ → List ℕ → SoFar → SoFar
+then_optional verb name (Err why) = Err why
+then_optional verb name (Ok (last, [])) = Err (missing verb name)
+then_optional verb name (Ok (last, word ∷ rest)) = if is_optional word then Ok (last, rest) else Err (no_name verb name word)
 
 -- a value that has a place of its own
 abbrev pub then_number : List ℕ → List ℕ → Value → SoFar → SoFar
@@ -129,7 +129,7 @@ then_flag name (Ok (last, word ∷ rest)) = if bytes_eq word name then Ok (name,
 abbrev pub then_apart : List ℕ → List ℕ → List ℕ → List ℕ → SoFar → SoFar
 then_apart verb one other both (Err why) = Err why
 then_apart verb one other both (Ok reading) =
-    if bytes_eq one other then Err (same_name verb one both) else Ok reading
+    if differ one other then Ok reading else Err (same_name verb one both)
 
 -- what is said in the end: no word may be left
 abbrev pub then_end : List ℕ → List (List ℕ) → SoFar → List ℕ

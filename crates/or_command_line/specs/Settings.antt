@@ -1,11 +1,13 @@
 -- The options of a run: `[--cores N] [--budget N] [--ram N] [--pic latched] [--stay N] [--status]`, in this order, and those of other commands.
-use Rattle.std.specs.Prelude.{ℕ, List, [], ◌∷◌, Bool, true, false, ◌&&◌, ◌≤◌, ◌^◌, nat_le, if◌then◌else◌, Option, Some, None, codes}
+use Rattle.std.specs.Prelude.{ℕ, List, [], ◌∷◌, Bool, true, false, ◌&&◌, ◌≤◌, ◌<◌, nat_le, nat_lt, IfSome, if◌then◌else◌, Option, Some, None, codes}
 use Rattle.std.specs.Str.{bytes_eq}
 use Rattle.or_words.specs.declared.Config.{Config}
-use Rattle.or_words.specs.declared.limits.TheConstants.{MOST_CORES, MOST_BUDGET, MOST_RAM, MOST_STAY}
+use Rattle.or_words.specs.declared.limits.TheConstants.{MOST_CORES, MOST_BUDGET, MOST_RAM, MOST_STAY, MOST_FIRST_SEED, MOST_TRIES, MOST_EVERY}
+use Rattle.or_command_line.specs.declared.defaults.TheConstants.{DEFAULT_BUDGET, DEFAULT_RAM, DEFAULT_CORES, DEFAULT_HUNT_CORES, DEFAULT_STAY, DEFAULT_SEED, DEFAULT_TRIES, DEFAULT_EVERY, DEFAULT_FROM, DEFAULT_TO}
 use Rattle.or_command_line.specs.declared.RunOptions.{RunOptions}
 use Rattle.or_command_line.specs.declared.HuntOptions.{HuntOptions}
 use Rattle.or_command_line.specs.declared.RaceOptions.{RaceOptions}
+use Rattle.or_command_line.specs.declared.TraceOptions.{TraceOptions}
 use Rattle.or_text.specs.Numerals.{decimal_of}
 
 abbrev pub with_rest : {A : Type 0} → List (List ℕ) → Option A → Option (A × List (List ℕ))
@@ -54,18 +56,18 @@ config_with_ram cores budget (Some (ram, rest)) = config_with_latch cores budget
 
 abbrev pub config_with_budget : ℕ → Option (ℕ × List (List ℕ)) → Option (Config × List (List ℕ))
 config_with_budget cores None = None
-config_with_budget cores (Some (budget, rest)) = config_with_ram cores budget (option_of (codes "--ram") 32 rest)
+config_with_budget cores (Some (budget, rest)) = config_with_ram cores budget (option_of (codes "--ram") DEFAULT_RAM rest)
 
 abbrev pub config_with_cores : Option (ℕ × List (List ℕ)) → Option (Config × List (List ℕ))
 config_with_cores None = None
-config_with_cores (Some (cores, rest)) = config_with_budget cores (option_of (codes "--budget") 1000000 rest)
+config_with_cores (Some (cores, rest)) = config_with_budget cores (option_of (codes "--budget") DEFAULT_BUDGET rest)
 
 -- the settings that the options give, with so many cores where none says it, and the words behind them; none where a setting
 -- is out of its range
 unfoldable pub config_of : ℕ → List (List ℕ) → Option (Config × List (List ℕ))
 config_of cores words = config_with_cores (option_of (codes "--cores") cores words)
 
--- the most turns of a stay at the bus: 1 to 4096
+-- the most turns of a stay at the bus, at least one
 abbrev pub stay_fits : ℕ → Bool
 stay_fits stay = nat_le 1 stay && nat_le stay MOST_STAY
 
@@ -75,7 +77,7 @@ stay_where (Some (stay, rest)) = if stay_fits stay then Some (stay, rest) else N
 
 -- the option `[--stay N]`, and the words behind it; none where the number is out of its range
 unfoldable pub stay_of : List (List ℕ) → Option (ℕ × List (List ℕ))
-stay_of words = stay_where (option_of (codes "--stay") 256 words)
+stay_of words = stay_where (option_of (codes "--stay") DEFAULT_STAY words)
 
 pub record FitsStay (stay : ℕ) : Type 0 where
   pub some : 1 ≤ stay
@@ -95,11 +97,11 @@ options_with_config (Some (config, rest)) = options_with_stay config (stay_of re
 
 -- the options of a run; none where a word is no option here, or a number is out of its range
 unfoldable pub run_options_of : List (List ℕ) → Option RunOptions
-run_options_of words = options_with_config (config_of 1 words)
+run_options_of words = options_with_config (config_of DEFAULT_CORES words)
 
--- seeds of 32 bits, and how many: 1 to 1000000
+-- the first seed, and how many: at least one; each has 32 bits
 abbrev pub hunt_fits : ℕ → ℕ → Bool
-hunt_fits seed tries = nat_le seed 4293967295 && (nat_le 1 tries && nat_le tries 1000000)
+hunt_fits seed tries = nat_le seed MOST_FIRST_SEED && (nat_le 1 tries && nat_le tries MOST_TRIES)
 
 abbrev pub hunt_options_with_tries : Config → ℕ → Option (ℕ × List (List ℕ)) → Option HuntOptions
 hunt_options_with_tries config seed None = None
@@ -108,20 +110,20 @@ hunt_options_with_tries config seed (Some (tries, word ∷ rest)) = None
 
 abbrev pub hunt_options_with_seed : Config → Option (ℕ × List (List ℕ)) → Option HuntOptions
 hunt_options_with_seed config None = None
-hunt_options_with_seed config (Some (seed, rest)) = hunt_options_with_tries config seed (option_of (codes "--tries") 1000 rest)
+hunt_options_with_seed config (Some (seed, rest)) = hunt_options_with_tries config seed (option_of (codes "--tries") DEFAULT_TRIES rest)
 
 abbrev pub hunt_options_with_config : Option (Config × List (List ℕ)) → Option HuntOptions
 hunt_options_with_config None = None
-hunt_options_with_config (Some (config, rest)) = hunt_options_with_seed config (option_of (codes "--seed") 1 rest)
+hunt_options_with_config (Some (config, rest)) = hunt_options_with_seed config (option_of (codes "--seed") DEFAULT_SEED rest)
 
 -- the options of a hunt: the settings, and `[--seed N] [--tries N]`; none where a word is no option here, or a number is out of its range
 unfoldable pub hunt_options_of : List (List ℕ) → Option HuntOptions
-hunt_options_of words = hunt_options_with_config (config_of 2 words)
+hunt_options_of words = hunt_options_with_config (config_of DEFAULT_HUNT_CORES words)
 
 pub record FitsHunt (options : HuntOptions) : Type 0 where
   pub some : 1 ≤ options.tries
-  pub limit : options.tries ≤ 1000000
-  pub seed : options.seed ≤ 4293967295
+  pub limit : options.tries ≤ MOST_TRIES
+  pub seed : options.seed ≤ MOST_FIRST_SEED
 
 abbrev pub stay_without_rest : Option (ℕ × List (List ℕ)) → Option ℕ
 stay_without_rest None = None
@@ -151,9 +153,52 @@ race_options_with (locks, rest) = race_options_with_places locks (flag_of (codes
 unfoldable pub race_options_of : List (List ℕ) → Option RaceOptions
 race_options_of words = race_options_with (flag_of (codes "--locks") words)
 
--- turns between two checkpoints: 1 to 2 ^ 29
+abbrev pub as_given : Option (ℕ × List (List ℕ)) → Option (Option ℕ × List (List ℕ))
+as_given None = None
+as_given (Some (number, rest)) = Some (Some number, rest)
+
+-- an option with a number, if it stands here; and the words behind it
+abbrev pub given_of : List ℕ → List (List ℕ) → Option (Option ℕ × List (List ℕ))
+given_of name [] = Some (None, [])
+given_of name (word ∷ rest) = if bytes_eq word name then as_given (option_value rest) else Some (None, word ∷ rest)
+
+-- a core that a board may have, if one is given
+abbrev pub core_fits : Option ℕ → Bool
+core_fits None = true
+core_fits (Some core) = nat_lt core MOST_CORES
+
+-- the core of a trace, and its turns, which are counted from 1
+abbrev pub trace_fits : TraceOptions → Bool
+trace_fits options = core_fits options.core && (nat_le 1 options.from && nat_le 1 options.to)
+
+abbrev pub trace_where : TraceOptions → Option TraceOptions
+trace_where options = if trace_fits options then Some options else None
+
+abbrev pub trace_options_with_to : Option ℕ → ℕ → Option (ℕ × List (List ℕ)) → Option TraceOptions
+trace_options_with_to core from None = None
+trace_options_with_to core from (Some (to, [])) = trace_where (record { core = core; from = from; to = to })
+trace_options_with_to core from (Some (to, word ∷ rest)) = None
+
+abbrev pub trace_options_with_from : Option ℕ → Option (ℕ × List (List ℕ)) → Option TraceOptions
+trace_options_with_from core None = None
+trace_options_with_from core (Some (from, rest)) = trace_options_with_to core from (option_of (codes "--to") DEFAULT_TO rest)
+
+abbrev pub trace_options_with_core : Option (Option ℕ × List (List ℕ)) → Option TraceOptions
+trace_options_with_core None = None
+trace_options_with_core (Some (core, rest)) = trace_options_with_from core (option_of (codes "--from") DEFAULT_FROM rest)
+
+-- the options of a trace: `[--core N] [--from T] [--to T]`; none where a word is no option here, or a number is out of its range
+unfoldable pub trace_options_of : List (List ℕ) → Option TraceOptions
+trace_options_of words = trace_options_with_core (given_of (codes "--core") words)
+
+pub record FitsTrace (options : TraceOptions) : Type 0 where
+  pub core : IfSome options.core (λ core. core < MOST_CORES)
+  pub from : 1 ≤ options.from
+  pub to : 1 ≤ options.to
+
+-- turns between two checkpoints, at least one
 abbrev pub every_fits : ℕ → Bool
-every_fits every = nat_le 1 every && nat_le every 536870912
+every_fits every = nat_le 1 every && nat_le every MOST_EVERY
 
 abbrev pub every_from : Option (ℕ × List (List ℕ)) → Option ℕ
 every_from None = None
@@ -162,8 +207,8 @@ every_from (Some (every, word ∷ rest)) = None
 
 -- the option `[--every N]`; none where a word is no option here, or the number is out of its range
 unfoldable pub every_of : List (List ℕ) → Option ℕ
-every_of words = every_from (option_of (codes "--every") 1048576 words)
+every_of words = every_from (option_of (codes "--every") DEFAULT_EVERY words)
 
 pub record FitsEvery (every : ℕ) : Type 0 where
   pub some : 1 ≤ every
-  pub limit : every ≤ 2 ^ 29
+  pub limit : every ≤ MOST_EVERY

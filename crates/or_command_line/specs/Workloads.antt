@@ -1,12 +1,13 @@
 -- The numbers of a workload: `SEED CORES ROUNDS`.
 use Rattle.std.specs.Prelude.{ℕ, List, Bool, ◌&&◌, ◌≤◌, nat_le, if◌then◌else◌, Option, Some, None}
+use Rattle.or_words.specs.declared.limits.TheConstants.{MOST_CORES, MOST_ROUNDS}
 use Rattle.or_command_line.specs.declared.Workload.{Workload}
 use Rattle.or_text.specs.Numerals.{decimal_of}
 
--- 1 to 8 cores, each of 1 to 100000 rounds
+-- some cores, each of some rounds
 abbrev pub workload_fits : Workload → Bool
 workload_fits workload =
-    (nat_le 1 workload.cores && nat_le workload.cores 8) && (nat_le 1 workload.rounds && nat_le workload.rounds 100000)
+    (nat_le 1 workload.cores && nat_le workload.cores MOST_CORES) && (nat_le 1 workload.rounds && nat_le workload.rounds MOST_ROUNDS)
 
 abbrev pub workload_where : Workload → Option Workload
 workload_where workload = if workload_fits workload then Some workload else None
@@ -23,6 +24,6 @@ workload_of seed cores rounds = workload_from (decimal_of seed) (decimal_of core
 
 pub record FitsWorkload (workload : Workload) : Type 0 where
   pub some_core : 1 ≤ workload.cores
-  pub cores : workload.cores ≤ 8
+  pub cores : workload.cores ≤ MOST_CORES
   pub some_round : 1 ≤ workload.rounds
-  pub rounds : workload.rounds ≤ 100000
+  pub rounds : workload.rounds ≤ MOST_ROUNDS

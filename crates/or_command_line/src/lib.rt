@@ -5,6 +5,7 @@ ghost use Rattle.std.specs.Prelude.{◌≡◌, None, Some, MatchOption, IfSome};
 ghost use Rattle.or_command_line.specs.Words.{texts};
 ghost use Rattle.or_command_line.specs.Command.{command_of, program_command, shown_command, AreNamesOf};
 
+mod defaults;
 mod names;
 mod options;
 mod programs;
@@ -32,7 +33,9 @@ pub struct Run<'a> {
     pub image: &'a str,
     /// The file of the console's input; `-` for none.
     pub input: &'a str,
+    /// The file of the recording; `-` for none.
     pub schedule: &'a str,
+    /// The file of the report; `-` for none.
     pub report: &'a str,
     pub options: RunOptions,
 }
@@ -54,7 +57,9 @@ pub struct Hunt<'a> {
     pub image: &'a str,
     /// The file of the console's input; `-` for none.
     pub input: &'a str,
+    /// The file of the recording; `-` for none.
     pub schedule: &'a str,
+    /// The file of the report; `-` for none.
     pub report: &'a str,
     pub options: HuntOptions,
 }
@@ -66,6 +71,17 @@ pub struct RaceOptions {
     pub locks: bool,
     /// Whether each line tells where its accesses were made, by the image's symbols.
     pub places: bool,
+}
+
+/// The options of a trace.
+#[derive(Clone, Copy)]
+pub struct TraceOptions {
+    /// The one core whose turns are traced, 0 to 7; none for all.
+    pub core: Option<u32>,
+    /// The first turn that is traced, counted from 1: 1 to 4294967295.
+    pub from: u32,
+    /// The last turn that is traced: 1 to 4294967295.
+    pub to: u32,
 }
 
 /// `IMAGE INPUT SCHED`: the files of a recorded run.
@@ -90,6 +106,7 @@ pub struct Workload {
 pub enum Command<'a> {
     Run(Run<'a>),
     Hunt(Hunt<'a>),
+    /// With `-` for no report.
     Replay {
         files: Recorded<'a>,
         report: &'a str,
@@ -130,6 +147,10 @@ pub enum Command<'a> {
     Prof {
         files: Recorded<'a>,
     },
+    Trace {
+        files: Recorded<'a>,
+        options: TraceOptions,
+    },
 }
 
 /// The command of these words; `None` where they are none. The names of a command are names of files, the written ones
@@ -148,6 +169,7 @@ pub fn parse(words: &[String]) -> Option<Command<'_>>
         "back" => runs::parse_back(rest),
         "race" => runs::parse_race(rest),
         "prof" => runs::parse_prof(rest),
+        "trace" => runs::parse_trace(rest),
         verb => parse_program(verb, rest),
     }
 }

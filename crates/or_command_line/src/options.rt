@@ -1,16 +1,20 @@
 //! The options behind the names.
-ghost use Rattle.std.specs.Prelude.{◌≡◌, None, Some, MatchOption, IfSome, IsTrue};
+ghost use Rattle.std.specs.Prelude.{◌≡◌, ◌<◌, None, Some, MatchOption, IfSome, IsTrue};
 ghost use Rattle.or_words.specs.Settings.{Fits};
+ghost use Rattle.or_words.specs.declared.limits.TheConstants.{MOST_CORES};
 ghost use Rattle.or_command_line.specs.Words.{texts};
-ghost use Rattle.or_command_line.specs.Settings.{option_of, flag_of, latch_of, config_of, config_fits, stay_of, stay_fits, FitsStay, run_options_of, hunt_options_of, hunt_fits, FitsHunt, stay_alone_of, every_of, every_fits, FitsEvery, symbols_alone_of, race_options_of};
+ghost use Rattle.or_command_line.specs.Settings.{option_of, flag_of, latch_of, config_of, config_fits, stay_of, stay_fits, FitsStay, run_options_of, hunt_options_of, hunt_fits, FitsHunt, stay_alone_of, every_of, every_fits, FitsEvery, symbols_alone_of, race_options_of, given_of, core_fits, trace_fits, FitsTrace, trace_options_of};
 
-use crate::{HuntOptions, RaceOptions, RunOptions};
+use crate::defaults::{
+    DEFAULT_BUDGET, DEFAULT_CORES, DEFAULT_EVERY, DEFAULT_FROM, DEFAULT_HUNT_CORES, DEFAULT_RAM,
+    DEFAULT_SEED, DEFAULT_STAY, DEFAULT_TO, DEFAULT_TRIES,
+};
+use crate::{HuntOptions, RaceOptions, RunOptions, TraceOptions};
 use or_text::numerals::read_decimal;
 use or_words::Config;
-use or_words::limits::{MOST_BUDGET, MOST_CORES, MOST_RAM, MOST_STAY};
-
-/// The most turns of a stay at the bus where no option gives them.
-const DEFAULT_STAY: u32 = 256;
+use or_words::limits::{
+    MOST_BUDGET, MOST_CORES, MOST_EVERY, MOST_FIRST_SEED, MOST_RAM, MOST_STAY, MOST_TRIES,
+};
 
 // An option with a number, which may be left out; the words behind it.
 fn option<'a>(name: &str, default: u32, words: &'a [String]) -> Option<(u32, &'a [String])>
@@ -85,10 +89,10 @@ fn settings(cores: u32, words: &[String]) -> Option<(Config, &[String])>
     let Some((cores, rest)) = option("--cores", cores, words) else {
         return None;
     };
-    let Some((budget, rest)) = option("--budget", 1_000_000, rest) else {
+    let Some((budget, rest)) = option("--budget", DEFAULT_BUDGET, rest) else {
         return None;
     };
-    let Some((ram, rest)) = option("--ram", 32, rest) else {
+    let Some((ram, rest)) = option("--ram", DEFAULT_RAM, rest) else {
         return None;
     };
     let Some((latched, rest)) = latch(rest) else {
@@ -107,7 +111,7 @@ fn settings(cores: u32, words: &[String]) -> Option<(Config, &[String])>
     }
 }
 
-// Turns of a stay: 1 to 4096.
+// Turns of a stay, at least one.
 fn is_stay(stay: u32) -> bool
     ensures test { result ≡ stay_fits stay }
     ensures fits { IsTrue result → FitsStay stay }
@@ -138,7 +142,7 @@ pub(crate) fn run_options(words: &[String]) -> Option<RunOptions>
     ensures fits { IfSome result (λ options. Fits options.config) }
     ensures stay { IfSome result (λ options. FitsStay options.stay) }
 {
-    let Some((config, rest)) = settings(1, words) else {
+    let Some((config, rest)) = settings(DEFAULT_CORES, words) else {
         return None;
     };
     let Some((stay, rest)) = stay(rest) else {
@@ -161,7 +165,7 @@ fn hunt_fits(options: &HuntOptions) -> bool
     ensures test { result ≡ hunt_fits options.now.seed options.now.tries }
     ensures fits { IsTrue result → FitsHunt options.now }
 {
-    options.seed <= 4_293_967_295 && (1 <= options.tries && options.tries <= 1_000_000)
+    options.seed <= MOST_FIRST_SEED && (1 <= options.tries && options.tries <= MOST_TRIES)
 }
 
 /// The options of a hunt.
@@ -171,13 +175,13 @@ pub(crate) fn hunt_options(words: &[String]) -> Option<HuntOptions>
     ensures fits { IfSome result (λ options. Fits options.config) }
     ensures range { IfSome result FitsHunt }
 {
-    let Some((config, rest)) = settings(2, words) else {
+    let Some((config, rest)) = settings(DEFAULT_HUNT_CORES, words) else {
         return None;
     };
-    let Some((seed, rest)) = option("--seed", 1, rest) else {
+    let Some((seed, rest)) = option("--seed", DEFAULT_SEED, rest) else {
         return None;
     };
-    let Some((tries, rest)) = option("--tries", 1000, rest) else {
+    let Some((tries, rest)) = option("--tries", DEFAULT_TRIES, rest) else {
         return None;
     };
     let options = HuntOptions {
@@ -227,12 +231,74 @@ pub(crate) fn race_options(words: &[String]) -> Option<RaceOptions>
     }
 }
 
-// Turns between two checkpoints: 1 to 2^29.
+// An option with a number, if it stands here; the words behind it.
+fn given<'a>(name: &str, words: &'a [String]) -> Option<(Option<u32>, &'a [String])>
+    ensures { MatchOption result (given_of name.now (texts words.now) ≡ None)
+        (λ found. given_of name.now (texts words.now) ≡ Some (found.0, texts found.1.now)) }
+{
+    let Some((word, rest)) = words.split_first() else {
+        return Some((None, words));
+    };
+    if word.as_str() != name {
+        return Some((None, words));
+    }
+    let Some((value, rest)) = rest.split_first() else {
+        return None;
+    };
+    match read_decimal(value.as_bytes()) {
+        Some(number) => Some((Some(number), rest)),
+        None => None,
+    }
+}
+
+// A core that a board may have, if one is given.
+fn is_core(core: Option<u32>) -> bool
+    ensures test { result ≡ core_fits core }
+    ensures fits { IsTrue result → IfSome core (λ number. number < MOST_CORES) }
+{
+    match core {
+        Some(number) => number < MOST_CORES,
+        None => true,
+    }
+}
+
+// The core and the turns of a trace are in their ranges.
+fn trace_fits(options: &TraceOptions) -> bool
+    ensures test { result ≡ trace_fits options.now }
+    ensures fits { IsTrue result → FitsTrace options.now }
+{
+    is_core(options.core) && (1 <= options.from && 1 <= options.to)
+}
+
+/// The options of a trace.
+#[tactic(auto, unfolding(crate::specs::Settings::trace_options_of))]
+pub(crate) fn trace_options(words: &[String]) -> Option<TraceOptions>
+    ensures value { result ≡ trace_options_of (texts words.now) }
+    ensures fits { IfSome result FitsTrace }
+{
+    let Some((core, rest)) = given("--core", words) else {
+        return None;
+    };
+    let Some((from, rest)) = option("--from", DEFAULT_FROM, rest) else {
+        return None;
+    };
+    let Some((to, rest)) = option("--to", DEFAULT_TO, rest) else {
+        return None;
+    };
+    let options = TraceOptions { core, from, to };
+    if rest.is_empty() && trace_fits(&options) {
+        Some(options)
+    } else {
+        None
+    }
+}
+
+// Turns between two checkpoints, at least one.
 fn every_fits(every: u32) -> bool
     ensures test { result ≡ every_fits every }
     ensures fits { IsTrue result → FitsEvery every }
 {
-    1 <= every && every <= 536_870_912
+    1 <= every && every <= MOST_EVERY
 }
 
 /// The number of turns between two checkpoints that the option gives.
@@ -241,7 +307,7 @@ pub(crate) fn every(words: &[String]) -> Option<u32>
     ensures value { result ≡ every_of (texts words.now) }
     ensures fits { IfSome result FitsEvery }
 {
-    let Some((every, rest)) = option("--every", 1_048_576, words) else {
+    let Some((every, rest)) = option("--every", DEFAULT_EVERY, words) else {
         return None;
     };
     if rest.is_empty() && every_fits(every) {

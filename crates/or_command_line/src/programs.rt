@@ -8,6 +8,7 @@ use crate::names::is_name;
 use crate::options::{stay_alone, symbols_alone};
 use crate::{Command, Workload};
 use or_text::numerals::read_decimal;
+use or_words::limits::{MOST_CORES, MOST_ROUNDS};
 
 /// `SRC IMAGE` and an option.
 #[tactic(auto, unfolding(crate::specs::Command::asm_of))]
@@ -51,13 +52,13 @@ pub(crate) fn parse_dis(words: &[String]) -> Option<Command<'_>>
     }
 }
 
-// 1 to 8 cores, each of 1 to 100000 rounds.
+// Some cores, each of some rounds.
 fn fits(workload: &Workload) -> bool
     ensures test { result ≡ workload_fits workload.now }
     ensures fits { IsTrue result → FitsWorkload workload.now }
 {
-    (1 <= workload.cores && workload.cores <= 8)
-        && (1 <= workload.rounds && workload.rounds <= 100_000)
+    (1 <= workload.cores && workload.cores <= MOST_CORES)
+        && (1 <= workload.rounds && workload.rounds <= MOST_ROUNDS)
 }
 
 // The workload of three numbers.

@@ -4,9 +4,9 @@ ghost use Rattle.std.specs.Str.{bytes_eq};
 ghost use Rattle.std.specs.List.{list_any};
 ghost use Rattle.or_text.specs.Sentences.{sentence_text};
 ghost use Rattle.or_command_line.specs.Words.{texts};
-ghost use Rattle.or_command_line.specs.Reading.{shown, fits, begins_with_dash, has_equals, stands_twice, is_board_option, is_option, missing, no_name, no_value, wrong_value, same_name, no_fault, value_of, leftover, then_file, then_input, then_number, then_option, then_flag, then_apart, then_end};
+ghost use Rattle.or_command_line.specs.Reading.{shown, fits, begins_with_dash, has_equals, stands_twice, is_board_option, is_option, missing, no_name, no_value, wrong_value, same_name, no_fault, value_of, leftover, then_file, then_optional, then_number, then_option, then_flag, then_apart, then_end};
 
-use crate::names::{is_input, is_name};
+use crate::names::{differ, is_name, is_optional};
 use or_text::numerals::read_decimal;
 use or_text::{Part, Sentence};
 
@@ -282,22 +282,22 @@ pub(crate) fn then_file<'a>(verb: &'a str, name: &'a str, so_far: SoFar<'a>) -> 
     }
 }
 
-/// Reads the name of the input, or `-`.
-pub(crate) fn then_input<'a>(verb: &'a str, so_far: SoFar<'a>) -> SoFar<'a>
-    ensures { shown result ≡ then_input verb.now (shown so_far.entry) }
+/// Reads the name of a file, or `-` for none.
+pub(crate) fn then_optional<'a>(verb: &'a str, name: &'a str, so_far: SoFar<'a>) -> SoFar<'a>
+    ensures { shown result ≡ then_optional verb.now name.now (shown so_far.entry) }
 {
     let Reading { last, rest } = match so_far {
         Ok(reading) => reading,
         Err(why) => return Err(why),
     };
     let Some((word, rest)) = rest.split_first() else {
-        return Err(missing(verb, "INPUT"));
+        return Err(missing(verb, name));
     };
     let word = word.as_str();
-    if is_input(word) {
+    if is_optional(word) {
         Ok(Reading { last, rest })
     } else {
-        Err(no_name(verb, "INPUT", word))
+        Err(no_name(verb, name, word))
     }
 }
 
@@ -395,10 +395,10 @@ pub(crate) fn then_apart<'a>(
         Ok(reading) => reading,
         Err(why) => return Err(why),
     };
-    if one == other {
-        Err(same_name(verb, one, both))
-    } else {
+    if differ(one, other) {
         Ok(reading)
+    } else {
+        Err(same_name(verb, one, both))
     }
 }
 

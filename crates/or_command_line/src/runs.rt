@@ -3,10 +3,10 @@ ghost use Rattle.std.specs.Prelude.{◌≡◌, None, Some, MatchOption, IfSome, 
 ghost use Rattle.or_words.specs.Settings.{Fits};
 ghost use Rattle.or_command_line.specs.Words.{texts};
 ghost use Rattle.or_command_line.specs.Names.{run_names, recorded_names, are_run_names, AreRecorded, AreWritten};
-ghost use Rattle.or_command_line.specs.Command.{run_of, hunt_of, replay_of, debug_of, back_of, race_of, recorded_of, as_prof, shown_command, AreNamesOf};
+ghost use Rattle.or_command_line.specs.Command.{run_of, hunt_of, replay_of, debug_of, back_of, race_of, trace_of, recorded_of, as_prof, shown_command, AreNamesOf};
 
 use crate::names::{are_recorded, are_written, is_name, is_report};
-use crate::options::{every, hunt_options, race_options, run_options};
+use crate::options::{every, hunt_options, race_options, run_options, trace_options};
 use crate::{Command, Hunt, Recorded, Run};
 
 /// `IMAGE INPUT SCHED REPORT` and options.
@@ -181,6 +181,29 @@ pub(crate) fn parse_race(words: &[String]) -> Option<Command<'_>>
     }
     match race_options(options) {
         Some(options) => Some(Command::Race { files, options }),
+        None => None,
+    }
+}
+
+/// `IMAGE INPUT SCHED` and the options of a trace.
+#[tactic(auto, unfolding(crate::specs::Command::trace_of))]
+pub(crate) fn parse_trace(words: &[String]) -> Option<Command<'_>>
+    ensures command { MatchOption result (trace_of (texts words.now) ≡ None) (λ command. trace_of (texts words.now) ≡ Some (shown_command command)) }
+    ensures names { IfSome result (λ command. AreNamesOf (shown_command command)) }
+{
+    let [image, input, schedule, options @ ..] = words else {
+        return None;
+    };
+    let files = Recorded {
+        image: image.as_str(),
+        input: input.as_str(),
+        schedule: schedule.as_str(),
+    };
+    if !are_recorded(&files) {
+        return None;
+    }
+    match trace_options(options) {
+        Some(options) => Some(Command::Trace { files, options }),
         None => None,
     }
 }

@@ -1,19 +1,40 @@
 //! Why words are no command.
 ghost use Rattle.std.specs.Prelude.{◌≡◌, ◌≤◌, length, codes};
 ghost use Rattle.or_text.specs.Sentences.{sentence_text};
+ghost use Rattle.or_command_line.specs.declared.reading.Value.TheVariants.{Number};
 ghost use Rattle.or_command_line.specs.Words.{texts};
 ghost use Rattle.or_command_line.specs.Reading.{shown, SoFar};
-ghost use Rattle.or_command_line.specs.Usage.{start, image_apart, with_image, recorded_words, report_apart, with_report, schedule_apart, with_schedule, board_words, run_usage, hunt_usage, replay_usage, session_words, debug_usage, back_usage, race_usage, recorded_usage, asm_usage, dis_usage, workload_words, gen_usage, bench_usage, program_usage, usage_sentence};
+ghost use Rattle.or_command_line.specs.Usage.{start, image_apart, with_image, image_words, recorded_words, report_apart, with_report, schedule_apart, with_schedule, board_words, run_usage, hunt_usage, replay_usage, session_words, debug_usage, back_usage, race_usage, trace_usage, recorded_usage, asm_usage, dis_usage, workload_words, gen_usage, bench_usage, program_usage, usage_sentence};
 
 use crate::reading::{
-    Reading, SoFar, Value, then_apart, then_end, then_file, then_flag, then_input, then_number,
-    then_option,
+    Reading, SoFar, Value, then_apart, then_end, then_file, then_flag, then_number, then_option,
+    then_optional,
 };
 use or_text::{Part, Sentence};
+use or_words::limits::{
+    MOST_BUDGET, MOST_CORES, MOST_EVERY, MOST_FIRST_SEED, MOST_RAM, MOST_ROUNDS, MOST_STAY,
+    MOST_TRIES,
+};
 
-const CORES: Value = Value::Number { low: 1, high: 8 };
+// From 1 to a limit.
+fn from_one_to(limit: u32) -> Value
+    ensures { result ≡ Number 1 limit }
+{
+    Value::Number {
+        low: 1,
+        high: u64::from(limit),
+    }
+}
 
-const STAY: Value = Value::Number { low: 1, high: 4096 };
+// From 0 to a limit.
+fn from_zero_to(limit: u32) -> Value
+    ensures { result ≡ Number 0 limit }
+{
+    Value::Number {
+        low: 0,
+        high: u64::from(limit),
+    }
+}
 
 // The words from the first on.
 fn start(words: &[String]) -> SoFar<'_>
@@ -25,16 +46,21 @@ fn start(words: &[String]) -> SoFar<'_>
     })
 }
 
+// `IMAGE INPUT`.
+fn image_words<'a>(verb: &'a str, words: &'a [String]) -> SoFar<'a>
+    ensures { shown result ≡ image_words verb.now (texts words.now) }
+{
+    then_optional(verb, "INPUT", then_file(verb, "IMAGE", start(words)))
+}
+
 // `IMAGE INPUT SCHED`.
 fn recorded_words<'a>(verb: &'a str, words: &'a [String]) -> SoFar<'a>
     ensures { shown result ≡ recorded_words verb.now (texts words.now) }
 {
-    let so_far = then_file(verb, "IMAGE", start(words));
-    let so_far = then_input(verb, so_far);
-    then_file(verb, "SCHED", so_far)
+    then_file(verb, "SCHED", image_words(verb, words))
 }
 
-// A report's name differs from these.
+// A report's name differs from these; `-` differs from all.
 #[tactic(auto, unfolding(crate::specs::Usage::report_apart))]
 fn report_apart<'a>(
     verb: &'a str,
@@ -103,45 +129,40 @@ fn with_schedule<'a>(verb: &'a str, words: &'a [String], so_far: SoFar<'a>) -> S
 fn board_words<'a>(verb: &'a str, words: &'a [String]) -> SoFar<'a>
     ensures { shown result ≡ board_words verb.now (texts words.now) }
 {
-    let so_far = then_file(verb, "REPORT", recorded_words(verb, words));
+    let so_far = then_optional(verb, "SCHED", image_words(verb, words));
+    let so_far = then_optional(verb, "REPORT", so_far);
     let so_far = with_schedule(verb, words, with_report(verb, words, so_far));
-    let so_far = then_option(verb, "--cores", CORES, so_far);
-    let budget = Value::Number {
-        low: 1,
-        high: 67_108_864,
-    };
-    let so_far = then_option(verb, "--budget", budget, so_far);
-    let ram = Value::Number { low: 1, high: 256 };
-    let so_far = then_option(verb, "--ram", ram, so_far);
+    let so_far = then_option(verb, "--cores", from_one_to(MOST_CORES), so_far);
+    let so_far = then_option(verb, "--budget", from_one_to(MOST_BUDGET), so_far);
+    let so_far = then_option(verb, "--ram", from_one_to(MOST_RAM), so_far);
     then_option(verb, "--pic", Value::Latched, so_far)
 }
 
 fn run_usage(words: &[String]) -> Sentence<'_>
     ensures { sentence_text result ≡ run_usage (texts words.now) }
 {
-    let so_far = then_option("run", "--stay", STAY, board_words("run", words));
+    let so_far = then_option(
+        "run",
+        "--stay",
+        from_one_to(MOST_STAY),
+        board_words("run", words),
+    );
     then_end("run", words, then_flag("--status", so_far))
 }
 
 fn hunt_usage(words: &[String]) -> Sentence<'_>
     ensures { sentence_text result ≡ hunt_usage (texts words.now) }
 {
-    let seed = Value::Number {
-        low: 0,
-        high: 4_293_967_295,
-    };
+    let seed = from_zero_to(MOST_FIRST_SEED);
     let so_far = then_option("hunt", "--seed", seed, board_words("hunt", words));
-    let tries = Value::Number {
-        low: 1,
-        high: 1_000_000,
-    };
-    then_end("hunt", words, then_option("hunt", "--tries", tries, so_far))
+    let so_far = then_option("hunt", "--tries", from_one_to(MOST_TRIES), so_far);
+    then_end("hunt", words, so_far)
 }
 
 fn replay_usage(words: &[String]) -> Sentence<'_>
     ensures { sentence_text result ≡ replay_usage (texts words.now) }
 {
-    let so_far = then_file("replay", "REPORT", recorded_words("replay", words));
+    let so_far = then_optional("replay", "REPORT", recorded_words("replay", words));
     then_end("replay", words, with_report("replay", words, so_far))
 }
 
@@ -155,11 +176,8 @@ fn session_words<'a>(verb: &'a str, words: &'a [String]) -> SoFar<'a>
 fn back_usage(words: &[String]) -> Sentence<'_>
     ensures { sentence_text result ≡ back_usage (texts words.now) }
 {
-    let every = Value::Number {
-        low: 1,
-        high: 536_870_912,
-    };
-    let so_far = then_option("back", "--every", every, session_words("back", words));
+    let so_far = session_words("back", words);
+    let so_far = then_option("back", "--every", from_one_to(MOST_EVERY), so_far);
     then_end("back", words, so_far)
 }
 
@@ -168,6 +186,16 @@ fn race_usage(words: &[String]) -> Sentence<'_>
 {
     let so_far = then_flag("--locks", recorded_words("race", words));
     then_end("race", words, then_flag("--where", so_far))
+}
+
+fn trace_usage(words: &[String]) -> Sentence<'_>
+    ensures { sentence_text result ≡ trace_usage (texts words.now) }
+{
+    let core = from_zero_to(MOST_CORES - 1);
+    let so_far = then_option("trace", "--core", core, recorded_words("trace", words));
+    let so_far = then_option("trace", "--from", from_one_to(u32::MAX), so_far);
+    let so_far = then_option("trace", "--to", from_one_to(u32::MAX), so_far);
+    then_end("trace", words, so_far)
 }
 
 fn recorded_usage<'a>(verb: &'a str, words: &'a [String]) -> Sentence<'a>
@@ -212,17 +240,9 @@ fn dis_usage(words: &[String]) -> Sentence<'_>
 fn workload_words<'a>(verb: &'a str, words: &'a [String]) -> SoFar<'a>
     ensures { shown result ≡ workload_words verb.now (texts words.now) }
 {
-    let seed = Value::Number {
-        low: 0,
-        high: 4_294_967_295,
-    };
-    let so_far = then_number(verb, "SEED", seed, start(words));
-    let so_far = then_number(verb, "CORES", CORES, so_far);
-    let rounds = Value::Number {
-        low: 1,
-        high: 100_000,
-    };
-    then_number(verb, "ROUNDS", rounds, so_far)
+    let so_far = then_number(verb, "SEED", from_zero_to(u32::MAX), start(words));
+    let so_far = then_number(verb, "CORES", from_one_to(MOST_CORES), so_far);
+    then_number(verb, "ROUNDS", from_one_to(MOST_ROUNDS), so_far)
 }
 
 fn gen_usage(words: &[String]) -> Sentence<'_>
@@ -236,7 +256,7 @@ fn bench_usage(words: &[String]) -> Sentence<'_>
     ensures { sentence_text result ≡ bench_usage (texts words.now) }
 {
     let so_far = then_file("bench", "SCHED", workload_words("bench", words));
-    let so_far = then_option("bench", "--stay", STAY, so_far);
+    let so_far = then_option("bench", "--stay", from_one_to(MOST_STAY), so_far);
     then_end("bench", words, so_far)
 }
 
@@ -270,6 +290,7 @@ pub fn explain(words: &[String]) -> Sentence<'_>
         "back" => back_usage(rest),
         "race" => race_usage(rest),
         "prof" => recorded_usage("prof", rest),
+        "trace" => trace_usage(rest),
         verb => program_usage(verb, rest),
     }
 }
