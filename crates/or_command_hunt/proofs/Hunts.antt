@@ -1,5 +1,5 @@
 -- From the parts of a hunt to its outcome.
-use Rattle.std.proofs.Common.{◌≡◌, ◌≢◌, ◌∙◌, ℕ, zero, suc, ◌+◌, ◌<◌, ◌≤◌, List, [], ◌∷◌, ◌++◌, length, Some, None, true, refl, sym, ap, subst, inl, inr, arith}
+use Rattle.std.proofs.Common.{◌≡◌, ◌∙◌, ℕ, zero, suc, ◌+◌, ◌<◌, ◌≤◌, List, [], ◌∷◌, ◌++◌, length, Some, None, true, refl, sym, ap, subst, inl, inr, arith}
 use Rattle.std.specs.Prelude.{Option}
 use Rattle.std.specs.List.{All}
 use Rattle.or_words.specs.declared.Config.{Config}
@@ -26,6 +26,7 @@ use Rattle.or_turn.proofs.Lengths.{AllBelow}
 use Rattle.or_host.specs.HostState.{HostState}
 use Rattle.or_command_line.specs.declared.HuntOptions.{HuntOptions}
 use Rattle.or_command_line.specs.Names.{Names, AreWritten}
+use Rattle.or_command.specs.Carried.{IsCarriedOut}
 use Rattle.or_command.specs.Leaves.{Silent}
 use Rattle.or_command.specs.declared.loading.LoadStop.{LoadStop}
 use Rattle.or_command.specs.Loads.{AllRead, LoadsAll, LoadsSome}
@@ -40,7 +41,8 @@ use Rattle.or_command.proofs.OutcomesLemmas.{read_stays, end_of_stop, stop_by, l
 use Rattle.or_command.proofs.FinishingLemmas.{loaded_goes_behind}
 use Rattle.or_command_image.specs.Loaded.{image_in, input_in, image_check}
 use Rattle.or_command_image.specs.Opened.{head_of}
-use Rattle.or_command_image.proofs.Images.{image_status, written_files, written_apart}
+use Rattle.or_command_image.specs.Written.{made_for, written_files}
+use Rattle.or_command_image.proofs.Images.{image_status, written_apart}
 use Rattle.or_hunt.specs.Failing.{NoneFails}
 use Rattle.or_command_hunt.specs.Tries.{IsHeard}
 use Rattle.or_command_hunt.specs.Hunt.{hunt_loads, hunt_image_check, HuntVerdict, HuntWrites, HuntLacks, AllPass, IsHunted, hunt_start, hunt_text, no_failure}
@@ -74,7 +76,7 @@ apart_of : (names : Names) (options : HuntOptions) → AreWritten names → (fil
     → HuntWrites names options files outs console → AreApart (hunt_loads names) outs
 apart_of names options written files outs console writes =
     subst (AreApart (hunt_loads names)) (sym writes.outputs)
-    (written_apart names.image names.input names.schedule writes.recording names.report writes.report written.schedule_image written.schedule_input written.report.image written.report.input)
+    (written_apart names.image names.input names.schedule writes.recording names.report writes.report written.schedule.image written.schedule.input written.report.image written.report.input)
 
 -- the files that were read are read where only something was said since
 read_still : (names : Names) (files : List (List ℕ)) (a b c : HostState) → AllRead (hunt_loads names) files a b → OnlySays b c → AllRead (hunt_loads names) files c c
@@ -101,12 +103,12 @@ hunt_goes_on names options written held kept end a b c none all silent ends =
       silent = ends.silent;
     }
 
--- no check of a hunt has status 2
-pub hunt_not_two : (names : Names) (options : HuntOptions) (files : List (List ℕ)) (fault : FailedCheck) → HuntVerdict names options files (Some fault) → fault.status ≢ 2
-hunt_not_two names options files fault (inl of_image) two =
-    let three = image_status names.image (elf_fault (image_in files) (ram_bytes options.config)) fault of_image in absurd (omega (arith, three, two))
-hunt_not_two names options files fault (inr pass) two =
-    let status : fault.status ≡ 14 = ap (λ (f : FailedCheck). f.status) pass.1.told in absurd (omega (arith, status, two))
+-- no check of a hunt has status 2 or 16
+pub hunt_carried : (names : Names) (options : HuntOptions) (files : List (List ℕ)) (fault : FailedCheck) → HuntVerdict names options files (Some fault) → IsCarriedOut fault.status
+hunt_carried names options files fault (inl of_image) =
+    let three = image_status names.image (elf_fault (image_in files) (ram_bytes options.config)) fault of_image in (λ two. absurd (omega (arith, three, two)), λ same. absurd (omega (arith, three, same)))
+hunt_carried names options files fault (inr pass) =
+    let status : fault.status ≡ 14 = ap (λ (f : FailedCheck). f.status) pass.1.told in (λ two. absurd (omega (arith, status, two)), λ same. absurd (omega (arith, status, same)))
 
 -- a hunt that stops at its loads
 pub hunt_stops : (names : Names) (options : HuntOptions) (stop : LoadStop) (held kept : List (List ℕ)) (a b : HostState) → LoadsSome (hunt_loads names) stop held kept a b
@@ -144,7 +146,7 @@ hunt_fails_not names options files a b sound tries none =
 
 -- some seed of the range fails, and its texts are written, or a write of them fails
 pub hunt_found : (names : Names) (options : HuntOptions) (files : List (List ℕ)) (recording report text : List ℕ) (end : CommandEnd) (a b c : HostState)
-    → hunt_image_check names options files ≡ None → IsHeard options.tries a b → IsFound options (image_in files) (input_in files) recording report text
+    → hunt_image_check names options files ≡ None → IsHeard options.tries a b → IsFound names options (image_in files) (input_in files) recording report text
     → WriteEnds (written_files names.schedule recording names.report report) text end b c → Silent b c → HuntGoesOn names options files end a c
 hunt_found names options files recording report text done a b c sound tries found ends silent = record {
   heard = b;
@@ -186,16 +188,16 @@ unfolding head_of
 head_config config image input = refl
 
 -- what is written of the schedule of a seed
-pub hunted_by : (start : Board) (head : Head) (from count seed : ℕ) (made : Made) (cores : List Core) (bus : BusState) (recording report text : List ℕ)
-    → IsDrawn start seed made cores bus → from + count ≡ seed + 1 → recording ≡ rec_text2 head made.turns.items made.marks.items
-    → ((board : Board) → cores ≡ board.cores → Represents bus board.world → report ≡ report_text board (length made.turns.items))
-    → text ≡ hunt_text seed count (length made.turns.items) cores → IsHunted start head from seed recording report text
-hunted_by start head from count seed made cores bus recording report text is counted recorded reported told = record {
+pub hunted_by : (names : Names) (start : Board) (head : Head) (from count seed : ℕ) (made : Made) (cores : List Core) (bus : BusState) (recording report text : List ℕ)
+    → IsDrawn start seed made cores bus → from + count ≡ seed + 1 → recording ≡ made_for names.schedule (rec_text2 head made.turns.items made.marks.items)
+    → ((board : Board) → cores ≡ board.cores → Represents bus board.world → report ≡ made_for names.report (report_text board (length made.turns.items)))
+    → text ≡ hunt_text seed count (length made.turns.items) cores → IsHunted names start head from seed recording report text
+hunted_by names start head from count seed made cores bus recording report text is counted recorded reported told = record {
   last = is.last;
   replayed = ap (replay start) (sym is.whole) ∙ is.is_made.reached;
   stopped = is.stopped;
-  recorded = recorded ∙ (λ i. rec_text2 head (is.whole i) ((is.is_made.marked ∙ ap (marks start) is.whole) i));
-  reported = reported is.last is.is_made.is.same_cores is.is_made.is.represents ∙ ap (λ (turns : List ℕ). report_text is.last (length turns)) is.whole;
+  recorded = recorded ∙ (λ i. made_for names.schedule (rec_text2 head (is.whole i) ((is.is_made.marked ∙ ap (marks start) is.whole) i)));
+  reported = reported is.last is.is_made.is.same_cores is.is_made.is.represents ∙ ap (λ (turns : List ℕ). made_for names.report (report_text is.last (length turns))) is.whole;
   count = count;
   counted = counted;
   told = told ∙ (λ i. hunt_text seed count (length (is.whole i)) (is.is_made.is.same_cores i));

@@ -14,10 +14,10 @@ use Rattle.or_command_hunt.specs.Hunt.{hunt_loads, hunt_image_check, HuntVerdict
 use Rattle.or_command_hunt.specs.Tries.{IsHeard}
 
 -- the texts of the least seed of the range that fails
-pub record IsFound (options : HuntOptions) (image input recording report text : List ℕ) : Type 0 where
+pub record IsFound (names : Names) (options : HuntOptions) (image input recording report text : List ℕ) : Type 0 where
   pub seed : ℕ
   pub least : IsLeastFailing (start options.config image input) options.seed options.tries seed
-  pub hunted : IsHunted (start options.config image input) (head_of options.config image input) options.seed seed recording report text
+  pub hunted : IsHunted names (start options.config image input) (head_of options.config image input) options.seed seed recording report text
 
 -- with the files that were loaded
 pub record HuntGoesOn (names : Names) (options : HuntOptions) (files : List (List ℕ)) (end : CommandEnd) (old new : HostState) : Type 0 where

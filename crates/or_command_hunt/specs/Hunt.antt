@@ -1,5 +1,5 @@
 -- What the command `hunt` loads, checks and writes.
-use Rattle.std.specs.Prelude.{◌≡◌, ◌+◌, ◌⊎◌, ℕ, List, [], ◌∷◌, ◌++◌, Option, Some, None, length, codes, decimal, true, if◌then◌else◌}
+use Rattle.std.specs.Prelude.{◌≡◌, ◌+◌, ◌⊎◌, ℕ, List, [], ◌++◌, Option, Some, None, length, codes, decimal, true, if◌then◌else◌}
 use Rattle.std.specs.List.{flat_map}
 use Rattle.or_words.specs.Settings.{ram_bytes}
 use Rattle.or_elf.specs.Fault.{elf_fault}
@@ -29,6 +29,7 @@ use Rattle.or_command.specs.Outcomes.{LacksMemory}
 use Rattle.or_command.specs.Answered.{AnswersBy, IsDecidedBy}
 use Rattle.or_command_image.specs.Loaded.{image_loads, image_in, input_in, image_check}
 use Rattle.or_command_image.specs.Opened.{head_of}
+use Rattle.or_command_image.specs.Written.{made_for, written_files}
 use Rattle.or_command_hunt.specs.Tries.{IsHeard}
 
 abbrev pub hunt_loads : Names → List Load
@@ -82,13 +83,14 @@ unfoldable pub hunt_text : ℕ → ℕ → ℕ → List Core → List ℕ
 hunt_text seed count turns cores =
     codes "hunt seed " ++ decimal seed ++ codes " try " ++ decimal count ++ codes " turns " ++ decimal turns ++ codes "\n" ++ flat_map failed_text cores
 
--- the recording of the schedule that is drawn of a seed, the report of the board to which it leads, and what is told of them
-pub record IsHunted (first : Board) (head : Head) (from seed : ℕ) (recording report text : List ℕ) : Type 0 where
+-- the recording of the schedule that is drawn of a seed and the report of the board to which it leads, each where it has a name, and
+-- what is told of them
+pub record IsHunted (names : Names) (first : Board) (head : Head) (from seed : ℕ) (recording report text : List ℕ) : Type 0 where
   pub last : Board
   pub replayed : replay first (drawn first seed) ≡ Some last
   pub stopped : all_stopped last.cores ≡ true
-  pub recorded : recording ≡ rec_text2 head (drawn first seed) (marks first (drawn first seed))
-  pub reported : report ≡ report_text last (length (drawn first seed))
+  pub recorded : recording ≡ made_for names.schedule (rec_text2 head (drawn first seed) (marks first (drawn first seed)))
+  pub reported : report ≡ made_for names.report (report_text last (length (drawn first seed)))
   pub count : ℕ
   pub counted : from + count ≡ seed + 1
   pub told : text ≡ hunt_text seed count (length (drawn first seed)) last.cores
@@ -99,8 +101,8 @@ pub record HuntWrites (names : Names) (options : HuntOptions) (files : List (Lis
   pub least : IsLeastFailing (hunt_start options files) options.seed options.tries seed
   pub recording : List ℕ
   pub report : List ℕ
-  pub hunted : IsHunted (hunt_start options files) (head_of options.config (image_in files) (input_in files)) options.seed seed recording report console
-  pub outputs : outs ≡ record { name = names.schedule; text = recording } ∷ record { name = names.report; text = report } ∷ []
+  pub hunted : IsHunted names (hunt_start options files) (head_of options.config (image_in files) (input_in files)) options.seed seed recording report console
+  pub outputs : outs ≡ written_files names.schedule recording names.report report
 
 -- what the command answers, and what stands then, behind the lines of the tries
 pub record HuntAnswers (names : Names) (options : HuntOptions) (status : ℕ) (old new : HostState) : Type 0 where

@@ -24,12 +24,13 @@ use crate::telling::append_told;
 use crate::trying::try_seeds;
 use or_command::{LoadStop, Loaded, Outcome, Refusal};
 use or_command_image::{
-    head, image_in, input_for_board, input_in, load_image, refused, write_recorded,
+    Reported, head, image_in, input_for_board, input_in, load_image, recording_if, refused,
+    report_if, write_recorded,
 };
-use or_command_line::{Hunt, HuntOptions};
+use or_command_line::Hunt;
 use or_host::Host;
 use or_hunt::{Found, Made};
-use or_replay::{Board, OpenFault, report};
+use or_replay::{Board, OpenFault};
 use or_sched::Head;
 use or_words::{Config, NoMemory};
 use std::alloc::Global;
@@ -59,6 +60,7 @@ fn open(alloc: Global, config: &Config, image: &[u8], input: &[u8]) -> Result<Bo
 // The texts of a seed on which a core fails, which was tried behind so many others less one.
 fn texts(
     alloc: Global,
+    words: &Hunt<'_>,
     head: &Head,
     count: u32,
     found: Found,
@@ -68,22 +70,20 @@ fn texts(
     requires schedule { IsSchedule head.now.config made.now.turns.items }
     requires marks { AreMarks made.now.turns.items made.now.marks.items }
     ensures { IfOk result (λ texts. (start : BoardModel) (from : ℕ) → IsDrawn start found.seed made.now found.board.cores found.board.bus → from + count ≡ found.seed + 1
-        → IsHunted start head.now from found.seed texts.recording.items texts.report.items texts.told.items) }
+        → IsHunted (hunt_names words.now) start head.now from found.seed texts.recording.items texts.report.items texts.told.items) }
 {
     let Found { seed, board } = found;
     let turns = made.turns.len() as u64;
-    let mut recording = Vec::new(alloc);
-    or_sched::write(head, &made.turns, &made.marks, &mut recording)?;
+    let recording = recording_if(alloc, words.schedule, head, &made.turns, &made.marks)?;
     let mut told = Vec::new(alloc);
     let Ok(()) = append_told(seed, count, turns, board.cores(), &mut told) else {
         return Err(NoMemory);
     };
     let (cores, bus) = board.into_parts();
-    let mut text = Vec::new(alloc);
-    report(alloc, cores.as_slice(), bus, turns, &mut text)?;
+    let Reported { report, .. } = report_if(alloc, words.report, cores.as_slice(), bus, turns)?;
     Ok(HuntTexts {
         recording,
-        report: text,
+        report,
         told,
     })
 }
@@ -91,25 +91,26 @@ fn texts(
 // Tries the seeds from this board, and makes the texts of the first on which a core fails.
 fn make<H: Host>(
     alloc: Global,
-    options: &HuntOptions,
+    words: &Hunt<'_>,
     image: &[u8],
     input: &[u8],
     mut board: Board,
     host: &mut H,
 ) -> Result<Option<HuntTexts>, NoMemory>
-    requires fits { Fits options.now.config }
-    requires range { FitsHunt options.now }
-    requires board { IsBoard board.cores board.bus (start options.now.config image.now input.now) }
-    ensures made { IfOk result (λ found. MatchOption found (NoneFails (start options.now.config image.now input.now) options.now.seed options.now.tries)
-        (λ texts. IsFound options.now image.now input.now texts.recording.items texts.report.items texts.told.items)) }
-    ensures heard { IsHeard options.now.tries (H.state host.old) (H.state host.new) }
+    requires fits { Fits words.now.options.config }
+    requires range { FitsHunt words.now.options }
+    requires board { IsBoard board.cores board.bus (start words.now.options.config image.now input.now) }
+    ensures made { IfOk result (λ found. MatchOption found (NoneFails (start words.now.options.config image.now input.now) words.now.options.seed words.now.options.tries)
+        (λ texts. IsFound (hunt_names words.now) words.now.options image.now input.now texts.recording.items texts.report.items texts.told.items)) }
+    ensures heard { IsHeard words.now.options.tries (H.state host.old) (H.state host.new) }
 {
+    let options = &words.options;
     let mut made = Made::new(alloc);
     match try_seeds(alloc, &mut board, options, &mut made, host) {
         Ok(Some(found)) => {
             let count = found.seed - options.seed + 1;
             let head = head(&options.config, image, input);
-            match texts(alloc, &head, count, found, &made) {
+            match texts(alloc, words, &head, count, found, &made) {
                 Ok(texts) => Ok(Some(texts)),
                 Err(NoMemory) => Err(NoMemory),
             }
@@ -134,14 +135,7 @@ fn hunt_on<'a, H: Host>(
     requires board { IsBoard board.cores board.bus (hunt_start words.now.options (bytes_of files.now)) }
     ensures { HuntGoesOn (hunt_names words.now) words.now.options (bytes_of files.now) (end_of result) (H.state host.old) (H.state host.new) }
 {
-    match make(
-        alloc,
-        &words.options,
-        image_in(files),
-        input_in(files),
-        board,
-        host,
-    ) {
+    match make(alloc, words, image_in(files), input_in(files), board, host) {
         Ok(Some(texts)) => write_recorded(
             words.schedule,
             words.report,

@@ -1,7 +1,7 @@
 -- The files that a command on an image, a console's input and a recording loads.
-use Rattle.std.specs.Prelude.{ℕ, List, [], ◌∷◌, ◌++◌, Bool, Option, Some, None, codes, if◌then◌else◌, slice_index_or}
-use Rattle.std.specs.Str.{bytes_eq}
+use Rattle.std.specs.Prelude.{ℕ, List, [], ◌∷◌, ◌++◌, Option, Some, None, if◌then◌else◌, slice_index_or}
 use Rattle.or_words.specs.declared.limits.TheConstants.{IMAGE_LIMIT, INPUT_LIMIT, RECORDING_LIMIT}
+use Rattle.or_command_line.specs.Words.{is_no_file}
 use Rattle.or_command.specs.Loads.{Load}
 use Rattle.or_command.specs.Lines.{image_line}
 use Rattle.or_command.specs.Ends.{FailedCheck}
@@ -10,11 +10,8 @@ use Rattle.or_elf.specs.Fault.{number_of, place_of}
 use Rattle.or_elf.specs.Sentences.{elf_sentence}
 
 -- `-` stands for no input, and is not loaded
-abbrev pub is_no_input : List ℕ → Bool
-is_no_input name = bytes_eq name (codes "-")
-
 abbrev pub input_loads : List ℕ → List Load
-input_loads name = if is_no_input name then [] else record { name = name; limit = INPUT_LIMIT } ∷ []
+input_loads name = if is_no_file name then [] else record { name = name; limit = INPUT_LIMIT } ∷ []
 
 abbrev pub image_loads : List ℕ → List ℕ → List Load
 image_loads image input = record { name = image; limit = IMAGE_LIMIT } ∷ input_loads input

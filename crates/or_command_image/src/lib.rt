@@ -9,12 +9,14 @@ ghost use Rattle.or_command.specs.Loads.{bytes_of, LoadsAll, LoadsSome};
 ghost use Rattle.or_command_image.specs.Loaded.{image_loads, image_in, input_in, file_at};
 
 mod opened;
+mod written;
 
-pub use opened::{head, input_for_board, refused, write_recorded};
+pub use opened::{head, input_for_board, refused};
 use or_command::{Input, LoadStop, Loaded, load_files};
 use or_host::Host;
 use or_words::limits::{IMAGE_LIMIT, INPUT_LIMIT};
 use std::alloc::Global;
+pub use written::{Reported, recording_if, report_if, write_recorded};
 
 /// Loads the image, and then the input where its name is not `-`, into an empty list.
 pub fn load_image<'a, H: Host>(

@@ -1,20 +1,16 @@
-//! What the commands do that open an image and write a recording: the copy of the input, the head, how a fault of the image ends
-//! the command, and what is written.
-ghost use Rattle.std.specs.Prelude.{◌≡◌, ◌≢◌, ◌≤◌, [], ◌∷◌, ℕ, List, None, MatchResult, length};
+//! What the commands do that open an image: the copy of the input, the head of a recording, and how a fault of the image ends the
+//! command.
+ghost use Rattle.std.specs.Prelude.{◌≡◌, ◌≤◌, ℕ, List, None, MatchResult, length};
 ghost use Rattle.or_words.specs.Settings.{Fits, ram_bytes};
 ghost use Rattle.or_words.specs.declared.limits.TheConstants.{IMAGE_LIMIT};
 ghost use Rattle.or_elf.specs.Fault.{elf_fault};
 ghost use Rattle.or_replay.specs.Opening.{FailsToOpen};
-ghost use Rattle.or_host.specs.Calls.{IsName};
-ghost use Rattle.or_command.specs.Leaves.{Silent};
 ghost use Rattle.or_command.specs.Ends.{end_of};
-ghost use Rattle.or_command.specs.Finishing.{WriteEnds};
 ghost use Rattle.or_command.specs.Answered.{Stops};
 ghost use Rattle.or_command_image.specs.Loaded.{image_check};
 ghost use Rattle.or_command_image.specs.Opened.{head_of};
 
-use or_command::{Outcome, Output, Refusal, write_outputs};
-use or_host::Host;
+use or_command::{Outcome, Refusal};
 use or_replay::OpenFault;
 use or_sched::Head;
 use or_words::Config;
@@ -71,31 +67,4 @@ pub fn refused(name: &str, fault: OpenFault) -> Outcome<'_>
             why: fault.sentence(),
         }),
     }
-}
-
-/// Writes a recording and what the report tells to the files of these names, and then text to standard output.
-pub fn write_recorded<'a, H: Host>(
-    schedule: &'a str,
-    report: &'a str,
-    recording: &[u8],
-    told: &[u8],
-    text: &[u8],
-    host: &mut H,
-) -> Outcome<'a>
-    requires schedule { IsName schedule.now }
-    requires report { IsName report.now }
-    requires apart { schedule.now ≢ report.now }
-    ensures outcome { WriteEnds (record { name = schedule.now; text = recording.now } ∷ record { name = report.now; text = told.now } ∷ [])
-        text.now (end_of result) (H.state host.old) (H.state host.new) }
-    ensures silent { Silent (H.state host.old) (H.state host.new) }
-{
-    let recording = Output {
-        name: schedule,
-        text: recording,
-    };
-    let report = Output {
-        name: report,
-        text: told,
-    };
-    write_outputs(host, &[recording, report], text)
 }

@@ -19,6 +19,7 @@ use Rattle.or_command.specs.Lines.{source_line}
 use Rattle.or_command_image.specs.Loaded.{image_check}
 use Rattle.or_command_source.specs.Assembly.{IsFileOf}
 use Rattle.or_command_image.specs.Opened.{head_of}
+use Rattle.or_command_run.specs.declared.benching.TheConstants.{BUDGET}
 use Rattle.or_command_run.specs.Recorded.{IsRecorded}
 
 abbrev pub bench_loads : List Load
@@ -29,7 +30,7 @@ bench_source numbers = workload numbers.seed numbers.cores numbers.rounds
 
 -- the settings that a workload runs with: its cores, a budget that outlasts its rounds, and 1 MiB of RAM
 unfoldable pub bench_config : Workload → Config
-bench_config numbers = record { cores = numbers.cores; budget = 10000000; ram = 1; latched = false }
+bench_config numbers = record { cores = numbers.cores; budget = BUDGET; ram = 1; latched = false }
 
 -- what stands in place of a file's name where a check fails
 abbrev pub bench_name : List ℕ

@@ -42,8 +42,8 @@ use std::thread::Threads;
 // What stands in place of a file's name where a check fails.
 const NAME: &str = "workload";
 
-// Outlasts the rounds of every workload.
-const BUDGET: u32 = 10_000_000;
+/// Outlasts the rounds of every workload.
+pub const BUDGET: u32 = 10_000_000;
 
 // What a bench writes.
 #[derive(Drop)]

@@ -1,5 +1,5 @@
 //! The command `run`.
-ghost use Rattle.std.specs.Prelude.{◌≡◌, ◌≤◌, [], ◌∷◌, None, Some, IfOk, MatchResult, length};
+ghost use Rattle.std.specs.Prelude.{◌≡◌, ◌≤◌, None, IfOk, MatchResult, length};
 ghost use Rattle.or_sched.specs.Schedule.{IsSchedule, AreMarks};
 ghost use Rattle.or_model.specs.Turn.{Board as BoardModel};
 ghost use Rattle.or_replay.specs.Board.{AreOfBus};
@@ -14,6 +14,7 @@ ghost use Rattle.or_command.specs.Ends.{end_of};
 ghost use Rattle.or_command.specs.Outcomes.{CommandOutcome};
 ghost use Rattle.or_command.specs.Loads.{bytes_of};
 ghost use Rattle.or_command_image.specs.Loaded.{image_in as image_of};
+ghost use Rattle.or_command_image.specs.Written.{written_files};
 ghost use Rattle.or_command.specs.Finishing.{WriteEnds, IfNoMemory};
 ghost use Rattle.or_command.specs.Answered.{FinishEnds};
 ghost use Rattle.or_replay.specs.Opening.{FailsToOpen};
@@ -23,11 +24,12 @@ use crate::budgets::budget_lines;
 use or_board::Gate;
 use or_command::{LoadStop, Loaded, Outcome};
 use or_command_image::{
-    head, image_in, input_for_board, input_in, load_image, refused, write_recorded,
+    head, image_in, input_for_board, input_in, load_image, recording_if, refused, report_if,
+    write_recorded,
 };
-use or_command_line::{Run, RunOptions};
+use or_command_line::Run;
 use or_host::Host;
-use or_replay::{OpenFault, has_failed, report};
+use or_replay::{OpenFault, has_failed};
 use or_sched::Head;
 use or_turn::Closed;
 use or_words::NoMemory;
@@ -68,7 +70,13 @@ pub fn run_status(asked: bool, failed: bool, status: u8) -> u8
 
 // The texts of a run that has come to its end.
 #[tactic(auto, using(crate::proofs::Runs::runs))]
-fn texts(alloc: Global, head: &Head, image: &[u8], closed: Closed) -> Result<RunTexts, NoMemory>
+fn texts(
+    alloc: Global,
+    words: &Run<'_>,
+    head: &Head,
+    image: &[u8],
+    closed: Closed,
+) -> Result<RunTexts, NoMemory>
     requires fits { Fits head.now.config }
     requires limit { length image.now ≤ IMAGE_LIMIT }
     requires sound { elf_fault image.now (ram_bytes head.now.config) ≡ None }
@@ -76,7 +84,7 @@ fn texts(alloc: Global, head: &Head, image: &[u8], closed: Closed) -> Result<Run
     requires marks { AreMarks closed.schedule.items closed.marks.items }
     requires order { AreOfBus closed.cores.items closed.bus }
     ensures { IfOk result (λ texts. (start : BoardModel) → IsThreadedRun start closed
-        → IsRunFrom start head.now image.now texts.recording.items texts.report.items texts.console.items texts.failed texts.lines.items) }
+        → IsRunFrom (run_names words.now) start head.now image.now texts.recording.items texts.report.items texts.console.items texts.failed texts.lines.items) }
 {
     let Closed {
         cores,
@@ -84,22 +92,15 @@ fn texts(alloc: Global, head: &Head, image: &[u8], closed: Closed) -> Result<Run
         schedule,
         marks,
     } = closed;
-    let mut recording = Vec::new(alloc);
-    or_sched::write(head, &schedule, &marks, &mut recording)?;
+    let recording = recording_if(alloc, words.schedule, head, &schedule, &marks)?;
     let failed = has_failed(cores.as_slice());
     let lines = budget_lines(alloc, image, head.config.budget, cores.as_slice())?;
-    let mut text = Vec::new(alloc);
-    let console = report(
-        alloc,
-        cores.as_slice(),
-        bus,
-        schedule.len() as u64,
-        &mut text,
-    )?;
+    let turns = schedule.len() as u64;
+    let told = report_if(alloc, words.report, cores.as_slice(), bus, turns)?;
     Ok(RunTexts {
         recording,
-        report: text,
-        console,
+        report: told.report,
+        console: told.console,
         failed,
         lines,
     })
@@ -110,25 +111,25 @@ fn texts(alloc: Global, head: &Head, image: &[u8], closed: Closed) -> Result<Run
 fn make<R: Threads + Wait + Sync, G: Gate + Sync>(
     rt: &R,
     alloc: Global,
-    options: &RunOptions,
+    words: &Run<'_>,
     image: &[u8],
     input: &[u8],
     gate: &G,
 ) -> Result<RunTexts, OpenFault>
-    requires fits { Fits options.now.config }
-    requires stay { FitsStay options.now.stay }
+    requires fits { Fits words.now.options.config }
+    requires stay { FitsStay words.now.options.stay }
     requires limit { length image.now ≤ IMAGE_LIMIT }
     ensures run { MatchResult result
-        (λ texts. (elf_fault image.now (ram_bytes options.now.config) ≡ None) × IsRun options.now.config image.now input.now texts.recording.items texts.report.items texts.console.items texts.failed texts.lines.items)
-        (λ fault. FailsToOpen image.now (ram_bytes options.now.config) fault) }
+        (λ texts. (elf_fault image.now (ram_bytes words.now.options.config) ≡ None) × IsRun (run_names words.now) words.now.options.config image.now input.now texts.recording.items texts.report.items texts.console.items texts.failed texts.lines.items)
+        (λ fault. FailsToOpen image.now (ram_bytes words.now.options.config) fault) }
 {
-    let config = &options.config;
+    let config = &words.options.config;
     let bytes = match input_for_board(alloc, config, image, input) {
         Ok(bytes) => bytes,
         Err(fault) => return Err(fault),
     };
-    match or_board::run(rt, alloc, config, image, bytes, options.stay, gate) {
-        Ok(closed) => match texts(alloc, &head(config, image, input), image, closed) {
+    match or_board::run(rt, alloc, config, image, bytes, words.options.stay, gate) {
+        Ok(closed) => match texts(alloc, words, &head(config, image, input), image, closed) {
             Ok(texts) => Ok(texts),
             Err(_) => Err(OpenFault::NoMemory),
         },
@@ -153,14 +154,7 @@ fn finish<'a, R: Threads + Wait + Sync, H: Host, G: Gate + Sync>(
     ensures passed { IfNoMemory (end_of result.outcome) (run_check (run_names words.now) words.now.options.config (bytes_of files.now) ≡ None) }
     ensures silent { Silent (H.state host.old) (H.state host.new) }
 {
-    match make(
-        rt,
-        alloc,
-        &words.options,
-        image_in(files),
-        input_in(files),
-        gate,
-    ) {
+    match make(rt, alloc, words, image_in(files), input_in(files), gate) {
         Ok(texts) => {
             let outcome = write(words, &texts, host);
             RunEnd {
@@ -180,7 +174,7 @@ fn finish<'a, R: Threads + Wait + Sync, H: Host, G: Gate + Sync>(
 // Writes the texts.
 fn write<'a, H: Host>(words: &Run<'a>, texts: &RunTexts, host: &mut H) -> Outcome<'a>
     requires names { AreWritten (run_names words.now) }
-    ensures outcome { WriteEnds (record { name = words.now.schedule.now; text = texts.now.recording.items } ∷ record { name = words.now.report.now; text = texts.now.report.items } ∷ [])
+    ensures outcome { WriteEnds (written_files words.now.schedule.now texts.now.recording.items words.now.report.now texts.now.report.items)
         texts.now.console.items (end_of result) (H.state host.old) (H.state host.new) }
     ensures silent { Silent (H.state host.old) (H.state host.new) }
 {

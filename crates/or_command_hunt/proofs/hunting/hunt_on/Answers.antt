@@ -5,7 +5,7 @@ use Rattle.or_command.specs.Loads.{bytes_of}
 use Rattle.or_command.specs.Ends.{end_of}
 use Rattle.or_command.specs.Finishing.{WriteEnds}
 use Rattle.or_command_image.specs.Loaded.{image_in, input_in}
-use Rattle.or_command_image.proofs.Images.{written_files}
+use Rattle.or_command_image.specs.Written.{written_files}
 use Rattle.or_command_hunt.specs.Finishing.{IsFound}
 use Rattle.or_command_hunt.proofs.Hunts.{hunt_found, sound_check}
 use Rattle.or_command_hunt.proofs.hunting.hunt_on.Goals as goal
@@ -19,8 +19,8 @@ returns-in-Ok-Some g c =
     let a = g.H.Host.state c.args.host.now in
     let b = g.H.Host.state c.make.new.host in
     let d = g.H.Host.state c.write_recorded.new.host in
-    let found = subst (λ (input : List ℕ). IsFound options (image_in files) input texts.recording.items texts.report.items texts.told.items) c.input_in.ensures
-    (subst (λ (image : List ℕ). IsFound options image c.input_in.result.now texts.recording.items texts.report.items texts.told.items) c.image_in.ensures (MatchOption-at_some _ _ _ c.in-Ok-Some.field-0-is c.in-Ok-Some.ensures.made)) in
+    let found = subst (λ (input : List ℕ). IsFound names options (image_in files) input texts.recording.items texts.report.items texts.told.items) c.input_in.ensures
+    (subst (λ (image : List ℕ). IsFound names options image c.input_in.result.now texts.recording.items texts.report.items texts.told.items) c.image_in.ensures (MatchOption-at_some _ _ _ c.in-Ok-Some.field-0-is c.in-Ok-Some.ensures.made)) in
     let end = end_of c.write_recorded.result in
     let recording = c.as_slice.ensures.value in
     let report = c.as_slice-in-Ok-Some.ensures.value in
