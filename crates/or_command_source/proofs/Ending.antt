@@ -17,14 +17,16 @@ use Rattle.or_command.specs.Ends.{FailedCheck, CommandEnd, done, unread, too_lon
 use Rattle.or_command.specs.Outcomes.{LeavesAll, AreApart, CommandOutcome, Computes}
 use Rattle.or_command.specs.Finishing.{IfNoMemory}
 use Rattle.or_command.specs.Answered.{FinishEnds}
-use Rattle.or_command.proofs.TellsLemmas.{same_refl, same_then, same_then_step, step_then_same, no_fault_then}
+use Rattle.or_command.specs.Carried.{IsCarriedOut}
+use Rattle.or_command.proofs.TellsLemmas.{none_prefix, same_refl, same_then, same_then_step, step_then_same, no_fault_then}
 use Rattle.or_command.proofs.OutcomesLemmas.{read_stays, done_outcome, unwritten_outcome, refusal_outcome, load_lacks}
 use Rattle.or_command.proofs.FinishingLemmas.{loaded_goes_behind}
 use Rattle.or_command_source.specs.Assembly.{asm_loads, asm_check, source_told, source_check, AsmWrites, AsmLacks, only_file}
 use Rattle.or_command_source.specs.Listing.{dis_loads, dis_check, fault_told, fault_check, DisWrites, DisLacks, HasListed, listing}
 use Rattle.or_command_line.specs.declared.Workload.{Workload}
 use Rattle.or_command_source.specs.Generation.{gen_loads, gen_check, GenWrites}
-use Rattle.or_command_source.specs.Listed.{Wrote, DisEnds}
+use Rattle.or_command.specs.Pieces.{Wrote}
+use Rattle.or_command_source.specs.Listed.{DisEnds}
 
 -- the source is not the image that is written
 asm_apart : (source image : List ℕ) (symbols : Bool) → image ≢ source → (files : List (List ℕ)) (outs : List File) (console : List ℕ)
@@ -62,17 +64,12 @@ image_status name None fault e = absurd (let b : ⊥ = cc in b)
 image_status name (Some found) fault e =
     let same : fault_told name found ≡ fault = cc in sym (ap (λ (f : FailedCheck). f.status) same)
 
--- neither check has status 2
-pub asm_not_two : (source : List ℕ) (files : List (List ℕ)) (fault : FailedCheck) → asm_check source files ≡ Some fault → fault.status ≢ 2
-asm_not_two source files fault found two = let nine = source_status source (source_of (only_file files)) fault found in absurd (omega (arith, nine, two))
+-- neither check has status 2 or 16
+pub asm_carried : (source : List ℕ) (files : List (List ℕ)) (fault : FailedCheck) → asm_check source files ≡ Some fault → IsCarriedOut fault.status
+asm_carried source files fault found = let nine = source_status source (source_of (only_file files)) fault found in (λ two. absurd (omega (arith, nine, two)), λ same. absurd (omega (arith, nine, same)))
 
-pub dis_not_two : (image : List ℕ) (files : List (List ℕ)) (fault : FailedCheck) → dis_check image files ≡ Some fault → fault.status ≢ 2
-dis_not_two image files fault found two = let three = image_status image (elf_fault (only_file files) 268435456) fault found in absurd (omega (arith, three, two))
-
-none_prefix : (a b : Option (List ℕ)) → TellsSame a b → TellsStep (AddsPrefix []) a b
-none_prefix a None same = tt
-none_prefix None (Some y) same = absurd same
-none_prefix (Some x) (Some y) same = record { first = []; is_prefix = record { rest = []; parts = refl }; added = same ∙ sym (append-nil x) }
+pub dis_carried : (image : List ℕ) (files : List (List ℕ)) (fault : FailedCheck) → dis_check image files ≡ Some fault → IsCarriedOut fault.status
+dis_carried image files fault found = let three = image_status image (elf_fault (only_file files) 268435456) fault found in (λ two. absurd (omega (arith, three, two)), λ same. absurd (omega (arith, three, same)))
 
 -- memory that runs out before an image is read leaves all as it was
 pub lacks_none : (image : List ℕ) (a b : HostState) → LeavesAll a b → Rose a.lacks b.lacks → DisLacks image a b
@@ -156,8 +153,8 @@ pub gen_apart : (numbers : Workload) (source : List ℕ) (files : List (List ℕ
     → GenWrites numbers source files outs console → AreApart gen_loads outs
 gen_apart numbers source files outs console writes = tt
 
-pub gen_not_two : (files : List (List ℕ)) (fault : FailedCheck) → gen_check files ≡ Some fault → fault.status ≢ 2
-gen_not_two files fault found two = let b : ⊥ = cc in b
+pub gen_carried : (files : List (List ℕ)) (fault : FailedCheck) → gen_check files ≡ Some fault → IsCarriedOut fault.status
+gen_carried files fault found = absurd (let b : ⊥ = cc in b)
 
 -- a file that was read is within the limit
 pub source_small : (source : List ℕ) (files : List (List ℕ)) (state : HostState) → AreRead (asm_loads source) files state → length (only_file files) ≤ 4194304

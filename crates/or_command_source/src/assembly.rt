@@ -1,6 +1,6 @@
 //! The command `asm`.
-ghost use Rattle.std.specs.Prelude.{◌≡◌, ◌≢◌, ◌≤◌, ℕ, true, false, List, Result, Ok, [], ◌∷◌, IfOk, MatchResult, length};
-ghost use Rattle.or_words.specs.declared.limits.TheConstants.{IMAGE_LIMIT};
+ghost use Rattle.std.specs.Prelude.{◌≡◌, ◌≤◌, ℕ, true, false, List, Result, Ok, [], ◌∷◌, IfOk, MatchResult, length};
+ghost use Rattle.or_words.specs.declared.limits.TheConstants.{IMAGE_LIMIT, MOST_SEGMENTS, MOST_PROGRAM_WORDS};
 ghost use Rattle.or_asm.specs.Source.{SourceFault, source_of, Refuses};
 ghost use Rattle.or_elf.specs.Text.{Piece, word_count};
 ghost use Rattle.or_host.specs.Calls.{IsName};
@@ -9,6 +9,7 @@ ghost use Rattle.or_command.specs.Leaves.{Silent};
 ghost use Rattle.or_command.specs.Loads.{bytes_of};
 ghost use Rattle.or_command.specs.Ends.{end_of};
 ghost use Rattle.or_command.specs.Outcomes.{CommandOutcome};
+ghost use Rattle.or_command.specs.Carried.{IsCarriedOut};
 ghost use Rattle.or_command.specs.Answered.{Answers, IsDecided, FinishEnds, StopsInCheck};
 ghost use Rattle.or_command_source.specs.Assembly.{asm_loads, asm_check, source_check, AsmWrites, AsmLacks, only_file, IsFileOf};
 
@@ -24,8 +25,8 @@ use std::alloc::Global;
 fn program(alloc: Global, source: &[u8]) -> Result<Program, AsmFault<'_>>
     requires limit { length source.now ≤ SOURCE_LIMIT }
     ensures said { MatchResult result (λ program. source_of source.now ≡ Ok program) (λ fault. Refuses fault (source_of source.now)) }
-    ensures few { IfOk result (λ program. length program ≤ 64) }
-    ensures short { IfOk result (λ program. word_count program ≤ 16000000) }
+    ensures few { IfOk result (λ program. length program ≤ MOST_SEGMENTS) }
+    ensures short { IfOk result (λ program. word_count program ≤ MOST_PROGRAM_WORDS) }
 {
     let mut program = Program {
         pieces: Vec::new(alloc),
@@ -148,7 +149,7 @@ pub fn asm<H: Host>(alloc: Global, source: &str, image: &str, symbols: bool, hos
     requires names { IsAssembly source.now image.now }
     ensures ends { Answers (asm_loads source.now) (asm_check source.now) (AsmWrites image.now symbols) (AsmLacks source.now) result (H.state host.old) (H.state host.new) }
     ensures decided { IsDecided (asm_loads source.now) (asm_check source.now) (AsmWrites image.now symbols) (AsmLacks source.now) result (H.state host.old) (H.state host.new) }
-    ensures command { result ≢ 2 }
+    ensures command { IsCarriedOut result }
 {
     let mut files = Loaded::new_in(alloc);
     let outcome = assembled(alloc, source, image, symbols, &mut files, host);

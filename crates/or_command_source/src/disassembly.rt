@@ -1,18 +1,19 @@
 //! The command `dis`.
-ghost use Rattle.std.specs.Prelude.{◌≡◌, ◌≢◌, ◌≤◌, length};
+ghost use Rattle.std.specs.Prelude.{◌≡◌, ◌≤◌, length};
 ghost use Rattle.or_command_line.specs.Words.{IsFileName};
 ghost use Rattle.or_command.specs.Leaves.{Silent};
 ghost use Rattle.or_command.specs.Loads.{bytes_of};
 ghost use Rattle.or_command.specs.Ends.{end_of};
 ghost use Rattle.or_command.specs.Outcomes.{CommandOutcome};
+ghost use Rattle.or_command.specs.Carried.{IsCarriedOut};
 ghost use Rattle.or_command.specs.Answered.{Answers, IsDecided};
 ghost use Rattle.or_command_source.specs.Assembly.{only_file as only_file_of};
 ghost use Rattle.or_command_source.specs.Listing.{dis_loads, dis_check, DisWrites, DisLacks, listing};
 ghost use Rattle.or_command_source.specs.Listed.{DisEnds};
 
 use crate::files::only_file;
-use crate::listing::{ListStop, list_segments};
-use or_command::{Input, LoadStop, Loaded, Outcome, Refusal, conclude, load_files};
+use crate::listing::list_segments;
+use or_command::{Input, LoadStop, Loaded, Outcome, PieceStop, Refusal, conclude, load_files};
 use or_host::Host;
 use or_words::limits::{IMAGE_LIMIT, MOST_RAM_BYTES};
 use std::alloc::Global;
@@ -37,8 +38,8 @@ fn finish<'a, H: Host>(alloc: Global, name: &'a str, image: &[u8], host: &mut H)
     };
     match list_segments(alloc, image, segments.as_slice(), host) {
         Ok(()) => Outcome::Done,
-        Err(ListStop::Unwritten) => Outcome::Unwritten("-"),
-        Err(ListStop::NoMemory) => Outcome::NoMemory,
+        Err(PieceStop::Unwritten) => Outcome::Unwritten("-"),
+        Err(PieceStop::NoMemory) => Outcome::NoMemory,
     }
 }
 
@@ -70,7 +71,7 @@ pub fn dis<H: Host>(alloc: Global, image: &str, host: &mut H) -> u8
     requires name { IsFileName image.now }
     ensures ends { Answers (dis_loads image.now) (dis_check image.now) DisWrites (DisLacks image.now) result (H.state host.old) (H.state host.new) }
     ensures decided { IsDecided (dis_loads image.now) (dis_check image.now) DisWrites (DisLacks image.now) result (H.state host.old) (H.state host.new) }
-    ensures command { result ≢ 2 }
+    ensures command { IsCarriedOut result }
 {
     let outcome = disassembled(alloc, image, host);
     conclude(host, outcome)

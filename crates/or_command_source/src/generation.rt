@@ -1,10 +1,11 @@
 //! The command `gen`.
-ghost use Rattle.std.specs.Prelude.{◌≡◌, ◌≢◌, []};
+ghost use Rattle.std.specs.Prelude.{◌≡◌, []};
 ghost use Rattle.or_command_line.specs.Words.{IsFileName};
 ghost use Rattle.or_command_line.specs.Workloads.{FitsWorkload};
 ghost use Rattle.or_command.specs.Leaves.{Silent};
 ghost use Rattle.or_command.specs.Ends.{end_of};
 ghost use Rattle.or_command.specs.Outcomes.{LeavesAll};
+ghost use Rattle.or_command.specs.Carried.{IsCarriedOut};
 ghost use Rattle.or_command.specs.Answered.{Answers, IsDecided, FinishEnds};
 ghost use Rattle.or_command_source.specs.Generation.{gen_loads, gen_check, GenWrites};
 
@@ -42,7 +43,7 @@ pub fn generate<H: Host>(alloc: Global, workload: &Workload, source: &str, host:
     requires name { IsFileName source.now }
     ensures ends { Answers gen_loads gen_check (GenWrites workload.now source.now) LeavesAll result (H.state host.old) (H.state host.new) }
     ensures decided { IsDecided gen_loads gen_check (GenWrites workload.now source.now) LeavesAll result (H.state host.old) (H.state host.new) }
-    ensures command { result ≢ 2 }
+    ensures command { IsCarriedOut result }
 {
     let outcome = generated(alloc, workload, source, host);
     conclude(host, outcome)

@@ -7,10 +7,11 @@ ghost use Rattle.or_isa.specs.Decode.{decode_of};
 ghost use Rattle.or_elf.specs.Fault.{IsInside};
 ghost use Rattle.or_command.specs.Leaves.{Silent};
 ghost use Rattle.or_command_source.specs.Listing.{insn_text, word_line, word_lines, bytes_before, segment_lines};
-ghost use Rattle.or_command_source.specs.Listed.{Lists};
+ghost use Rattle.or_command.specs.Pieces.{WritesOut};
 
 use byteorder::{BigEndian, ByteOrder};
 use or_asm::print;
+use or_command::{PieceStop, write_piece};
 use or_elf::Segment;
 use or_host::Host;
 use or_isa::decode;
@@ -18,30 +19,17 @@ use or_text::append_word;
 use or_words::NoMemory;
 use std::alloc::{AllocError, Global};
 
-/// Why a listing ends early.
-#[derive(Clone, Copy)]
-pub(crate) enum ListStop {
-    /// Standard output was not written.
-    Unwritten,
-    /// Memory ran out.
-    NoMemory,
-}
-
 // Appends the text of a word.
-fn append_insn(alloc: Global, place: u32, word: u32, out: &mut Vec<u8>) -> Result<(), NoMemory>
+fn append_insn(place: u32, word: u32, out: &mut Vec<u8>) -> Result<(), NoMemory>
     requires { place % 4 ≡ 0 }
     ensures { OnOk result (out.new.items ≡ out.old.items ++ insn_text place word (decode_of word)) }
 {
     match decode(word) {
-        Some(insn) => print(alloc, &insn, place, out),
+        Some(insn) => print(&insn, place, out),
         None => {
-            if out.extend_from_slice(b".word 0x").is_err() {
-                return Err(NoMemory);
-            }
-            match append_word(word, out) {
-                Ok(()) => Ok(()),
-                Err(_) => Err(NoMemory),
-            }
+            out.extend_from_slice(b".word 0x")?;
+            append_word(word, out)?;
+            Ok(())
         }
     }
 }
@@ -64,29 +52,22 @@ fn line_of(alloc: Global, place: u32, word: u32) -> Result<Vec<u8>, NoMemory>
     ensures { IfOk result (λ line. line.items ≡ word_line place word) }
 {
     let mut line = Vec::new(alloc);
-    let Ok(()) = append_words(place, word, &mut line) else {
-        return Err(NoMemory);
-    };
-    append_insn(alloc, place, word, &mut line)?;
-    let Ok(()) = line.push(b'\n') else {
-        return Err(NoMemory);
-    };
+    append_words(place, word, &mut line)?;
+    append_insn(place, word, &mut line)?;
+    line.push(b'\n')?;
     Ok(line)
 }
 
 // Writes the line of a word.
-fn list_word<H: Host>(alloc: Global, place: u32, word: u32, host: &mut H) -> Result<(), ListStop>
+fn list_word<H: Host>(alloc: Global, place: u32, word: u32, host: &mut H) -> Result<(), PieceStop>
     requires { place % 4 ≡ 0 }
-    ensures lists { Lists result (word_line place word) (H.state host.old) (H.state host.new) }
+    ensures lists { WritesOut result (word_line place word) (H.state host.old) (H.state host.new) }
     ensures silent { Silent (H.state host.old) (H.state host.new) }
 {
     let Ok(line) = line_of(alloc, place, word) else {
-        return Err(ListStop::NoMemory);
+        return Err(PieceStop::NoMemory);
     };
-    match host.out(&line) {
-        Ok(()) => Ok(()),
-        Err(_) => Err(ListStop::Unwritten),
-    }
+    write_piece(host, &line)
 }
 
 // The first word, and the bytes behind it; none of fewer than four bytes.
@@ -109,10 +90,10 @@ fn list_words<H: Host>(
     first: u32,
     bytes: &[u8],
     host: &mut H,
-) -> Result<(), ListStop>
+) -> Result<(), PieceStop>
     requires aligned { first % 4 ≡ 0 }
     requires small { first + length bytes.now < 2 ^ 32 }
-    ensures lists { Lists result (word_lines first bytes.now) (H.state host.old) (H.state host.new) }
+    ensures lists { WritesOut result (word_lines first bytes.now) (H.state host.old) (H.state host.new) }
     ensures silent { Silent (H.state host.old) (H.state host.new) }
 {
     let mut place = first;
@@ -157,9 +138,9 @@ fn list_segment<H: Host>(
     bytes: &[u8],
     segment: &Segment,
     host: &mut H,
-) -> Result<(), ListStop>
+) -> Result<(), PieceStop>
     requires inside { IsInside (length bytes.now) MOST_RAM_BYTES segment.now }
-    ensures lists { Lists result (segment_lines bytes.now segment.now) (H.state host.old) (H.state host.new) }
+    ensures lists { WritesOut result (segment_lines bytes.now segment.now) (H.state host.old) (H.state host.new) }
     ensures silent { Silent (H.state host.old) (H.state host.new) }
 {
     let skipped = (4 - segment.paddr % 4) % 4;
@@ -175,9 +156,9 @@ pub(crate) fn list_segments<H: Host>(
     bytes: &[u8],
     segments: &[Segment],
     host: &mut H,
-) -> Result<(), ListStop>
+) -> Result<(), PieceStop>
     requires { All (IsInside (length bytes.now) MOST_RAM_BYTES) segments.now }
-    ensures lists { Lists result (flat_map (segment_lines bytes.now) segments.now) (H.state host.old) (H.state host.new) }
+    ensures lists { WritesOut result (flat_map (segment_lines bytes.now) segments.now) (H.state host.old) (H.state host.new) }
     ensures silent { Silent (H.state host.old) (H.state host.new) }
 {
     let mut rest = segments;

@@ -1,9 +1,9 @@
 use Rattle.std.specs.Prelude.{⊤}
 use Rattle.or_command.specs.Ends.{end_of}
 use Rattle.or_command.proofs.OutcomesLemmas.{said_lacks}
-use Rattle.or_command.proofs.AnsweredLemmas.{answered, decided, not_two}
+use Rattle.or_command.proofs.AnsweredLemmas.{answered, decided, carried}
 use Rattle.or_command_source.specs.Assembly.{asm_loads, asm_check, AsmWrites, AsmLacks}
-use Rattle.or_command_source.proofs.Ending.{asm_not_two}
+use Rattle.or_command_source.proofs.Ending.{asm_carried}
 use Rattle.or_command_source.proofs.assembly.asm.Goals as goal
 
 pub returns-clause-ends : goal.returns-clause-ends
@@ -22,5 +22,5 @@ returns-clause-decided g c =
 
 pub returns-clause-command : goal.returns-clause-command
 returns-clause-command g c =
-    not_two (asm_loads c.args.source.now) (asm_check c.args.source.now) (AsmWrites c.args.image.now c.args.symbols) (AsmLacks c.args.source.now) c.conclude.result
-    (g.H.Host.state c.args.host.now) (g.H.Host.state c.conclude.new.host) (asm_not_two c.args.source.now) (returns-clause-ends g c)
+    carried (asm_loads c.args.source.now) (asm_check c.args.source.now) (AsmWrites c.args.image.now c.args.symbols) (AsmLacks c.args.source.now) c.conclude.result
+    (g.H.Host.state c.args.host.now) (g.H.Host.state c.conclude.new.host) (asm_carried c.args.source.now) (returns-clause-ends g c)

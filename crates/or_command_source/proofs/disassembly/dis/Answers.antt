@@ -1,7 +1,7 @@
 use Rattle.or_command.specs.Ends.{end_of}
-use Rattle.or_command.proofs.AnsweredLemmas.{answered, decided, not_two}
+use Rattle.or_command.proofs.AnsweredLemmas.{answered, decided, carried}
 use Rattle.or_command_source.specs.Listing.{dis_loads, dis_check, DisWrites, DisLacks}
-use Rattle.or_command_source.proofs.Ending.{dis_not_two, lacks_then_said}
+use Rattle.or_command_source.proofs.Ending.{dis_carried, lacks_then_said}
 use Rattle.or_command_source.proofs.disassembly.dis.Goals as goal
 
 pub returns-clause-ends : goal.returns-clause-ends
@@ -23,5 +23,5 @@ returns-clause-decided g c =
 pub returns-clause-command : goal.returns-clause-command
 returns-clause-command g c =
     let image = c.args.image.now in
-    not_two (dis_loads image) (dis_check image) DisWrites (DisLacks image) c.conclude.result
-    (g.H.Host.state c.args.host.now) (g.H.Host.state c.conclude.new.host) (dis_not_two image) (returns-clause-ends g c)
+    carried (dis_loads image) (dis_check image) DisWrites (DisLacks image) c.conclude.result
+    (g.H.Host.state c.args.host.now) (g.H.Host.state c.conclude.new.host) (dis_carried image) (returns-clause-ends g c)

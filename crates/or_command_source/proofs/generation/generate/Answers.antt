@@ -2,9 +2,9 @@ use Rattle.std.proofs.Common.{[], refl}
 use Rattle.or_command.specs.Ends.{end_of}
 use Rattle.or_command.specs.Outcomes.{LeavesAll}
 use Rattle.or_command.proofs.OutcomesLemmas.{said_leaves_all}
-use Rattle.or_command.proofs.AnsweredLemmas.{answered, decided, not_two, goes_on}
+use Rattle.or_command.proofs.AnsweredLemmas.{answered, decided, carried, goes_on}
 use Rattle.or_command_source.specs.Generation.{gen_loads, gen_check, GenWrites}
-use Rattle.or_command_source.proofs.Ending.{none_loaded, gen_apart, gen_not_two}
+use Rattle.or_command_source.proofs.Ending.{none_loaded, gen_apart, gen_carried}
 use Rattle.or_command_source.proofs.generation.generate.Goals as goal
 
 pub returns-clause-ends : goal.returns-clause-ends
@@ -26,5 +26,5 @@ returns-clause-decided g c =
 
 pub returns-clause-command : goal.returns-clause-command
 returns-clause-command g c =
-    not_two gen_loads gen_check (GenWrites c.args.workload.now c.args.source.now) LeavesAll c.conclude.result
-    (g.H.Host.state c.args.host.now) (g.H.Host.state c.conclude.new.host) gen_not_two (returns-clause-ends g c)
+    carried gen_loads gen_check (GenWrites c.args.workload.now c.args.source.now) LeavesAll c.conclude.result
+    (g.H.Host.state c.args.host.now) (g.H.Host.state c.conclude.new.host) gen_carried (returns-clause-ends g c)

@@ -4,8 +4,8 @@ use Rattle.or_elf.specs.Fault.{IsInside}
 use Rattle.or_elf.specs.declared.segment.Segment.{Segment}
 use Rattle.or_command.proofs.TellsLemmas.{silent_then}
 use Rattle.or_command_source.specs.Listing.{segment_lines}
-use Rattle.or_command_source.specs.Listed.{SoFar}
-use Rattle.or_command_source.proofs.Progress.{goes_on, stops}
+use Rattle.or_command.specs.Pieces.{SoFar}
+use Rattle.or_command.proofs.PiecesLemmas.{goes_on, stops}
 use Rattle.or_command_source.proofs.listing.list_segments.Goals as goal
 
 pub loop-segment-preserved : goal.loop-segment-preserved

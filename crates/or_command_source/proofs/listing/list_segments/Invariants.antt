@@ -3,7 +3,7 @@ use Rattle.std.specs.List.{All, flat_map}
 use Rattle.or_elf.specs.Fault.{IsInside}
 use Rattle.or_command.specs.Leaves.{Silent}
 use Rattle.or_command_source.specs.Listing.{segment_lines}
-use Rattle.or_command_source.specs.Listed.{SoFar}
+use Rattle.or_command.specs.Pieces.{SoFar}
 use Rattle.or_command_source.proofs.listing.list_segments.Given as goal
 
 abbrev pub invariant-loop-segment : goal.invariant-loop-segment

@@ -1,8 +1,8 @@
 use Rattle.std.proofs.Common.{arith, subst, ◌+◌, ℕ, List}
 use Rattle.or_command.proofs.TellsLemmas.{silent_then}
 use Rattle.or_command_source.specs.Listing.{word_line, word_lines}
-use Rattle.or_command_source.specs.Listed.{SoFar}
-use Rattle.or_command_source.proofs.Progress.{goes_on, stops}
+use Rattle.or_command.specs.Pieces.{SoFar}
+use Rattle.or_command.proofs.PiecesLemmas.{goes_on, stops}
 use Rattle.or_command_source.proofs.listing.list_words.Goals as goal
 
 pub loop-word-preserved : goal.loop-word-preserved

@@ -1,7 +1,7 @@
 use Rattle.std.proofs.Common.{◌≡◌, ◌<◌, ◌+◌, ◌%◌, ◌^◌, length}
 use Rattle.or_command.specs.Leaves.{Silent}
 use Rattle.or_command_source.specs.Listing.{word_lines}
-use Rattle.or_command_source.specs.Listed.{SoFar}
+use Rattle.or_command.specs.Pieces.{SoFar}
 use Rattle.or_command_source.proofs.listing.list_words.Given as goal
 
 abbrev pub invariant-loop-word : goal.invariant-loop-word
