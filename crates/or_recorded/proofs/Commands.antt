@@ -9,7 +9,7 @@ use Rattle.or_command.specs.Outcomes.{AreApart}
 use Rattle.or_command.specs.Finishing.{EndsAfterLoad, end_of_check}
 use Rattle.or_command_line.specs.Names.{Recorded, IsReport}
 use Rattle.or_words.specs.declared.limits.TheConstants.{INPUT_LIMIT, RECORDING_LIMIT}
-use Rattle.or_command_image.specs.Loaded.{is_no_input}
+use Rattle.or_command_line.specs.Words.{is_no_file}
 use Rattle.or_recorded.specs.declared.refused.OwnFault.{OwnFault}
 use Rattle.or_recorded.specs.declared.refused.OwnFault.TheVariants.{Symbols, Script, NoMemory}
 use Rattle.or_recorded.specs.declared.refused.Fault.{Fault}
@@ -19,24 +19,31 @@ use Rattle.or_recorded.specs.Refused.{own_check, Fails}
 use Rattle.or_recorded.specs.Command.{Run, IsFault, Judged, Verdict, Writes, told_check}
 
 -- ---- the report is none of the files that are loaded
-apart_none : (loads : List Load) → AreApart loads []
+pub apart_none : (loads : List Load) → AreApart loads []
 apart_none [] = tt
 apart_none (load ∷ loads) = (tt, apart_none loads)
+
+all_apart : (loads : List Load) (no_report : Bool) (report text : List ℕ) → (no_report ≡ false → AreApart loads (record { name = report; text = text } ∷ []))
+    → AreApart loads (cond no_report [] (record { name = report; text = text } ∷ []))
+all_apart loads true report text is = apart_none loads
+all_apart loads false report text is = is refl
 
 script_apart : (script : Option (List ℕ)) (report text : List ℕ) → IfSome script (λ name. report ≢ name) → AreApart (script_loads script) (record { name = report; text = text } ∷ [])
 script_apart None report text is = tt
 script_apart (Some name) report text is = ((λ e. is (sym e), tt), tt)
 
-loads_apart : (dash : Bool) (run : Recorded) (script : Option (List ℕ)) (report text : List ℕ) → IsReport run report → IfSome script (λ name. report ≢ name)
+loads_apart : (dash : Bool) (run : Recorded) (script : Option (List ℕ)) (report text : List ℕ) → is_no_file report ≡ false → IsReport run report → IfSome script (λ name. report ≢ name)
     → AreApart ((cond dash [] (record { name = run.input; limit = INPUT_LIMIT } ∷ []) ++ record { name = run.schedule; limit = RECORDING_LIMIT } ∷ []) ++ script_loads script)
     (record { name = report; text = text } ∷ [])
-loads_apart true run script report text is other = ((λ e. is.schedule (sym e), tt), script_apart script report text other)
-loads_apart false run script report text is other = ((λ e. is.input (sym e), tt), ((λ e. is.schedule (sym e), tt), script_apart script report text other))
+loads_apart true run script report text named is other = ((λ e. is.schedule named (sym e), tt), script_apart script report text other)
+loads_apart false run script report text named is other = ((λ e. is.input named (sym e), tt), ((λ e. is.schedule named (sym e), tt), script_apart script report text other))
 
 outs_apart : (run : Recorded) (script report : Option (List ℕ)) (text : List ℕ) → IfSome report (IsReport run) → IfSome report (λ name. IfSome script (λ script. name ≢ script))
     → AreApart (loads (record { run = run; script = script; report = report })) (outs_of report text)
 outs_apart run script None text is other = apart_none (loads (record { run = run; script = script; report = None }))
-outs_apart run script (Some name) text is other = ((λ e. is.image (sym e), tt), loads_apart (is_no_input run.input) run script name text is other)
+outs_apart run script (Some name) text is other =
+    all_apart (loads (record { run = run; script = script; report = Some name })) (is_no_file name) name text
+    (λ named. ((λ e. is.image named (sym e), tt), loads_apart (is_no_file run.input) run script name text named is other))
 
 -- a command on a recorded run
 module _ (fault : Run → Option OwnFault) (Makes : Run → List ℕ → List ℕ → Type 0) (names : Names) where

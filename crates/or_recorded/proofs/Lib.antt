@@ -11,3 +11,5 @@ pub mod Short
 pub mod Statuses
 pub mod StepCounts
 pub mod Verdicts
+pub mod Traced
+pub mod TraceEnding

@@ -19,7 +19,10 @@ use Rattle.or_recorded.specs.Debug.{debug_fault, MakesSession}
 use Rattle.or_recorded.specs.Events.{events_of}
 use Rattle.or_recorded.specs.Prof.{prof_fault, MakesProfile}
 use Rattle.or_recorded.specs.Race.{symbols_for, race_fault, MakesRaces}
+use Rattle.or_command_image.specs.Written.{made_for}
 use Rattle.or_recorded.specs.Replay.{replay_fault, IsReplayed}
+use Rattle.or_command_line.specs.declared.TraceOptions.{TraceOptions}
+use Rattle.or_recorded.specs.Trace.{trace_fault, MakesTrace}
 use Rattle.or_recorded.specs.Traces.{traces}
 
 pub one_run : (files : Files) (run other : Run) → IsRunOf files run → IsRunOf files other → run ≡ other
@@ -42,18 +45,18 @@ one_output fault Makes names one read outs others console other is also =
     (is.outputs ∙ both.0 ∙ sym also.outputs, both.1)
 
 -- a recorded run has one replay
-one_end : (names : Names) (run : Run) (report also_report console also : List ℕ) → IsReplayed run report console → IsReplayed run also_report also
+one_end : (names : Names) (name : List ℕ) (run : Run) (report also_report console also : List ℕ) → IsReplayed name run report console → IsReplayed name run also_report also
     → (outs_of names.report report ≡ outs_of names.report also_report) × (console ≡ also)
-one_end names run report also_report console other is also =
+one_end names name run report also_report console other is also =
     let ends : Some is.last ≡ Some also.last = sym is.reached ∙ also.reached in
     let last : is.last ≡ also.last = cc in (
-      ap (outs_of names.report) (is.reported ∙ ap (λ (board : Board). report_text board (length run.turns)) last ∙ sym also.reported),
+      ap (outs_of names.report) (is.reported ∙ ap (λ (board : Board). made_for name (report_text board (length run.turns))) last ∙ sym also.reported),
       is.shown ∙ ap (λ (board : Board). console_of board.world.devices) last ∙ sym also.shown,
     )
 
-pub one_replay : (names : Names) (read : List (List ℕ)) (outs others : List File) (console other : List ℕ) → Writes replay_fault IsReplayed names read outs console
-    → Writes replay_fault IsReplayed names read others other → (outs ≡ others) × (console ≡ other)
-one_replay names = one_output replay_fault IsReplayed names (one_end names)
+pub one_replay : (names : Names) (name : List ℕ) (read : List (List ℕ)) (outs others : List File) (console other : List ℕ) → Writes replay_fault (IsReplayed name) names read outs console
+    → Writes replay_fault (IsReplayed name) names read others other → (outs ≡ others) × (console ≡ other)
+one_replay names name = one_output replay_fault (IsReplayed name) names (one_end names name)
 
 -- one race report
 pub one_race_report : (run : Recorded) (options : RaceOptions) (read : List (List ℕ)) (outs others : List File) (console other : List ℕ)
@@ -80,3 +83,9 @@ pub one_back_session : (run : Recorded) (script : List ℕ) (read : List (List �
     → Writes back_fault MakesBackSession (with_script run script) read outs console → Writes back_fault MakesBackSession (with_script run script) read others other
     → (outs ≡ others) × (console ≡ other)
 one_back_session run script = one_output back_fault MakesBackSession (with_script run script) (λ r report also_report console other is also. (refl, is ∙ sym also))
+
+-- one trace
+pub one_trace : (run : Recorded) (options : TraceOptions) (read : List (List ℕ)) (outs others : List File) (console other : List ℕ)
+    → Writes trace_fault (MakesTrace options) (run_alone run) read outs console → Writes trace_fault (MakesTrace options) (run_alone run) read others other
+    → (outs ≡ others) × (console ≡ other)
+one_trace run options = one_output trace_fault (MakesTrace options) (run_alone run) (λ r report also_report console other is also. (refl, is ∙ sym also))

@@ -2,7 +2,6 @@
 use Rattle.std.proofs.Common.{◌≡◌, refl, sym, subst, ℕ, List, Option, Some, None, inl, inr}
 use Rattle.or_sched.specs.declared.recording.Head.{Head}
 use Rattle.or_sched.specs.declared.recording.Mark.{Mark}
-use Rattle.or_sched.specs.declared.recording.RecFault.{RecFault}
 use Rattle.or_sched.specs.declared.recording.RecFault.TheVariants.{BadHead, BadRun, Short, NoMemory as NoMemoryToRead}
 use Rattle.or_command.specs.Ends.{FailedCheck, CommandEnd, done, unread, too_long, refused, unwritten, no_memory}
 use Rattle.or_command.specs.Finishing.{IfNoMemory, end_of_check}
@@ -33,7 +32,7 @@ checked_short image input recording head turns marks is =
     inr (record { head = head; turns = turns; marks = marks; of_run = is.of_run; sound = is.sound })
 
 -- a check that takes memory, and fails for want of it alone
-fault_short : (image input recording : List ℕ) (names : Recorded) (fault : RunFault) → IsFirstFault image input recording fault → fault_check names fault ≡ None
+pub fault_short : (image input recording : List ℕ) (names : Recorded) (fault : RunFault) → IsFirstFault image input recording fault → fault_check names fault ≡ None
     → RunsShort image input recording
 fault_short image input recording names (Text (BadHead line)) is none = absurd (let b : ⊥ = cc in b)
 fault_short image input recording names (Text (BadRun at)) is none = absurd (let b : ⊥ = cc in b)

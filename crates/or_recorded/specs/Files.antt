@@ -4,9 +4,10 @@ use Rattle.std.specs.Borrow.{Bor}
 use Rattle.or_words.specs.declared.limits.TheConstants.{SCRIPT_LIMIT}
 use Rattle.or_command.specs.Loads.{Load}
 use Rattle.or_command.specs.Writes.{File}
-use Rattle.or_command_line.specs.Words.{IsFileName}
+use Rattle.or_command_line.specs.Words.{is_no_file, IsFileName}
 use Rattle.or_command_line.specs.Names.{Recorded, recorded_names, AreRecorded, IsReport}
-use Rattle.or_command_image.specs.Loaded.{recorded_loads, is_no_input, file_at}
+use Rattle.or_command_image.specs.Loaded.{recorded_loads, file_at}
+use Rattle.or_command_image.specs.Written.{written_for}
 use Rattle.or_recorded.specs.declared.files.Names.{Names as NamesWords}
 use Rattle.or_recorded.specs.declared.files.Files.{Files as FilesRead}
 
@@ -47,15 +48,15 @@ pub record Files : Type 0 where
 abbrev pub files_in : Names → List (List ℕ) → Files
 files_in names read = record {
   image = file_at read 0;
-  input = if is_no_input names.run.input then [] else file_at read 1;
-  recording = if is_no_input names.run.input then file_at read 1 else file_at read 2;
-  script = if is_no_input names.run.input then file_at read 2 else file_at read 3;
+  input = if is_no_file names.run.input then [] else file_at read 1;
+  recording = if is_no_file names.run.input then file_at read 1 else file_at read 2;
+  script = if is_no_file names.run.input then file_at read 2 else file_at read 3;
 }
 
--- the report, where one is written
+-- the report, where one is written; `-` stands for none
 abbrev pub outs_of : Option (List ℕ) → List ℕ → List File
 outs_of None report = []
-outs_of (Some name) report = record { name = name; text = report } ∷ []
+outs_of (Some name) report = written_for name report
 
 -- what names are to a host: those that are written differ from each other name
 pub record AreNames (names : Names) : Type 0 where

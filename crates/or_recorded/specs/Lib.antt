@@ -11,3 +11,5 @@ pub mod Racing
 pub mod Refused
 pub mod Replay
 pub mod Traces
+pub mod Trace
+pub mod Tracing

@@ -1,5 +1,5 @@
 -- What the watcher of `prof` has seen of a schedule: a profile that has as many items of each core as the core has made steps.
-use Rattle.std.specs.Prelude.{◌≡◌, ℕ, ◌≤◌, List, Option, Some, None, Result, Ok, Err, length, take, slice_get}
+use Rattle.std.specs.Prelude.{◌≡◌, ℕ, ◌≤◌, List, Some, None, Result, Ok, Err, length, take, slice_get}
 use Rattle.or_words.specs.declared.limits.TheConstants.{MOST_BUDGET}
 use Rattle.or_elf.specs.Symbols.{symbols_of}
 use Rattle.or_model.specs.Core.{Core}

@@ -138,16 +138,17 @@ fn write<'a, H: Host>(names: &Names<'a>, texts: &Texts, host: &mut H) -> Outcome
     ensures outcome { WriteEnds (outs_of (names_of names.now).report texts.now.report.items) texts.now.console.items (end_of result) (H.state host.old) (H.state host.new) }
     ensures silent { Silent (H.state host.old) (H.state host.new) }
 {
-    match names.report {
-        Some(name) => {
-            let report = Output {
-                name,
-                text: texts.report.as_slice(),
-            };
-            write_outputs(host, &[report], texts.console.as_slice())
-        }
-        None => write_outputs(host, &[], texts.console.as_slice()),
+    let Some(name) = names.report else {
+        return write_outputs(host, &[], texts.console.as_slice());
+    };
+    if name == "-" {
+        return write_outputs(host, &[], texts.console.as_slice());
     }
+    let report = Output {
+        name,
+        text: texts.report.as_slice(),
+    };
+    write_outputs(host, &[report], texts.console.as_slice())
 }
 
 // How the command ends on files that were loaded.

@@ -17,7 +17,7 @@ pub struct Names<'a> {
     pub run: Recorded<'a>,
     /// The script, where the command reads one.
     pub script: Option<&'a str>,
-    /// The report, where the command writes one.
+    /// The report, where the command writes one; `-` for none.
     pub report: Option<&'a str>,
 }
 

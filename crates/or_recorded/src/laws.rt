@@ -15,6 +15,8 @@ ghost use Rattle.or_recorded.specs.Files.{names_of, run_alone, with_script, with
 ghost use Rattle.or_recorded.specs.Prof.{prof_fault, MakesProfile};
 ghost use Rattle.or_recorded.specs.Race.{race_fault, MakesRaces};
 ghost use Rattle.or_recorded.specs.Replay.{replay_fault, IsReplayed};
+ghost use Rattle.or_command_line.specs.declared.TraceOptions.{TraceOptions};
+ghost use Rattle.or_recorded.specs.Trace.{trace_fault, MakesTrace};
 ghost use Rattle.or_recorded.specs.Traces.{traces};
 
 use crate::command::RecordedCommand;
@@ -33,8 +35,8 @@ pub fn files_have_one_verdict<C: RecordedCommand>(names: &Names<'_>, command: &C
 
 /// The files of a recorded run have one replay.
 pub fn files_have_one_replay(names: &Recorded<'_>, report: &str)
-    ensures { (read : List (List ℕ)) (outs others : List File) (console other : List ℕ) → Writes replay_fault IsReplayed (with_report (recorded_names names.now) report.now) read outs console
-        → Writes replay_fault IsReplayed (with_report (recorded_names names.now) report.now) read others other → (outs ≡ others) × (console ≡ other) }
+    ensures { (read : List (List ℕ)) (outs others : List File) (console other : List ℕ) → Writes replay_fault (IsReplayed report.now) (with_report (recorded_names names.now) report.now) read outs console
+        → Writes replay_fault (IsReplayed report.now) (with_report (recorded_names names.now) report.now) read others other → (outs ≡ others) × (console ≡ other) }
 {
     let _ = names;
     let _ = report;
@@ -72,6 +74,14 @@ pub fn files_have_one_back_session(names: &Recorded<'_>, script: &str)
 {
     let _ = names;
     let _ = script;
+}
+
+/// They have one trace of each range of turns and core.
+pub fn files_have_one_trace(names: &Recorded<'_>)
+    ensures { (options : TraceOptions) (read : List (List ℕ)) (outs others : List File) (console other : List ℕ) → Writes trace_fault (MakesTrace options) (run_alone (recorded_names names.now)) read outs console
+        → Writes trace_fault (MakesTrace options) (run_alone (recorded_names names.now)) read others other → (outs ≡ others) × (console ≡ other) }
+{
+    let _ = names;
 }
 
 /// The items that the traces of a schedule have for a core are as many as the steps that the core has then made.

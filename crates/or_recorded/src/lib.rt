@@ -12,6 +12,8 @@ mod profiling;
 mod racing;
 mod refused;
 mod replaying;
+mod traced_run;
+mod tracing;
 
 pub use checked::{Checked, Recording, RunFault};
 pub use command::{RecordedCommand, Texts, carry_out};
@@ -22,3 +24,4 @@ pub use profiling::{Prof, ProfWatch};
 pub use racing::{Race, RaceWatch};
 pub use refused::OwnFault;
 pub use replaying::Replay;
+pub use traced_run::trace;

@@ -66,11 +66,11 @@ impl RecordedCommand for Prof {
         alloc: Global,
         files: Files<'_>,
         run: Checked,
-        watch: ProfWatch,
+        mut watch: ProfWatch,
     ) -> Result<Texts, OwnFault> {
         let _ = files;
         let _ = run;
-        match &watch.counted {
+        match &mut watch.counted {
             Ok(profile) => match texts_of(alloc, profile) {
                 Ok(texts) => Ok(texts),
                 Err(_) => Err(OwnFault::NoMemory),
@@ -81,9 +81,9 @@ impl RecordedCommand for Prof {
 }
 
 // The text of a profile.
-fn texts_of(alloc: Global, profile: &Profile) -> Result<Texts, NoMemory>
-    ensures { IfOk result (λ texts. (additions : List Addition) → IsProfile profile.now additions
-        → IsProfText (length profile.now.cores) profile.now.symbols additions texts.console.items) }
+fn texts_of(alloc: Global, profile: &mut Profile) -> Result<Texts, NoMemory>
+    ensures { IfOk result (λ texts. (additions : List Addition) → IsProfile profile.old additions
+        → IsProfText (length profile.old.cores) profile.old.symbols additions texts.console.items) }
 {
     let mut console = Vec::new(alloc);
     match profile.write(&mut console) {

@@ -9,22 +9,26 @@ use crate::checked::Checked;
 use crate::command::{RecordedCommand, Texts};
 use crate::files::Files;
 use crate::refused::OwnFault;
-use or_replay::{Unwatched, report};
+use or_command_image::{Reported, report_if};
+use or_replay::Unwatched;
 use or_words::{Config, NoMemory};
 use std::alloc::Global;
 
 /// `replay`: follows a recorded run to its end, and writes its report and its console.
 #[derive(Clone, Copy)]
-pub struct Replay;
+pub struct Replay<'a> {
+    /// The name of the report; `-` for none.
+    pub report: &'a str,
+}
 
-impl RecordedCommand for Replay {
+impl RecordedCommand for Replay<'_> {
     type Watch = Unwatched;
 
     ghost use Rattle.or_recorded.specs.Replay.{replay_fault, IsReplayed};
 
     ghost fault = { λ _. replay_fault };
 
-    ghost Makes = { λ _. IsReplayed };
+    ghost Makes = { λ replay. IsReplayed replay.report.now };
 
     fn begin(
         &self,
@@ -46,7 +50,7 @@ impl RecordedCommand for Replay {
         watch: Unwatched,
     ) -> Result<Texts, OwnFault> {
         let _ = watch;
-        match texts(alloc, files, run) {
+        match texts(alloc, self.report, files, run) {
             Ok(texts) => Ok(texts),
             Err(_) => Err(OwnFault::NoMemory),
         }
@@ -55,18 +59,14 @@ impl RecordedCommand for Replay {
 
 // The texts of a recorded run.
 #[tactic(auto, using(crate::proofs::Replayed::replayed))]
-fn texts(alloc: Global, files: Files<'_>, run: Checked) -> Result<Texts, NoMemory>
+fn texts(alloc: Global, name: &str, files: Files<'_>, run: Checked) -> Result<Texts, NoMemory>
     requires { IsRunChecked files.image.now files.input.now files.recording.now run }
-    ensures { IfOk result (λ texts. IsReplayed (run_of (bytes_of_files files.entry) run.recording) texts.report.items texts.console.items) }
+    ensures { IfOk result (λ texts. IsReplayed name.now (run_of (bytes_of_files files.entry) run.recording) texts.report.items texts.console.items) }
 {
     let _ = files;
     let Checked { recording, board } = run;
     let (cores, bus) = board.into_parts();
-    let mut text = Vec::new(alloc);
     let turns = recording.turns.len() as u64;
-    let console = report(alloc, cores.as_slice(), bus, turns, &mut text)?;
-    Ok(Texts {
-        report: text,
-        console,
-    })
+    let Reported { report, console } = report_if(alloc, name, cores.as_slice(), bus, turns)?;
+    Ok(Texts { report, console })
 }
