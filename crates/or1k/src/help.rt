@@ -23,13 +23,14 @@ name lead to one file. With any other status than 0 and 15 two lines on standard
 ";
 
 /// What is told of each command.
-pub(crate) const COMMANDS: [Help<'static>; 11] = [
+pub(crate) const COMMANDS: [Help<'static>; 12] = [
     Help {
         name: "run",
         words: "IMAGE INPUT SCHED REPORT [--cores N] [--budget N] [--ram N] [--pic latched] [--stay N] [--status]",
         text: "    Runs the ELF32 file IMAGE, with the bytes of the file INPUT as console input (- for none), until every core has
     stopped. Writes the recording of the order of turns to SCHED, the final cores to REPORT, and the console to standard
-    output. A core stops by l.nop 1, with r3 as its exit value, or when it has used up its budget.
+    output. SCHED or REPORT is - where it is not wanted. A core stops by l.nop 1, with r3 as its exit value, or when it has
+    used up its budget.
     --cores N        cores of the board, 1 to 8, default 1
     --budget N       steps that each core may make, 1 to 67108864, default 1000000
     --ram N          RAM in MiB, 1 to 256, default 32
@@ -46,7 +47,8 @@ pub(crate) const COMMANDS: [Help<'static>; 11] = [
         words: "IMAGE INPUT SCHED REPORT [--cores N] [--budget N] [--ram N] [--pic latched] [--seed N] [--tries N]",
         text: "    Looks for an order of turns in which a core fails: it uses up its budget, or its exit value is not 0. Draws a schedule
     of each seed, runs IMAGE by it from the start, and takes the first seed that fails. Writes the recording of its run to
-    SCHED, the final cores to REPORT, and to standard output the seed and the cores that fail. Exits with 14 if none fails.
+    SCHED, the final cores to REPORT, and to standard output the seed and the cores that fail. SCHED or REPORT is - where it
+    is not wanted. Exits with 14 if none fails.
     --cores N        cores of the board, 1 to 8, default 2
     --budget N, --ram N, --pic latched    as for run
     --seed N         the first seed, 0 to 4293967295, default 1
@@ -59,6 +61,7 @@ pub(crate) const COMMANDS: [Help<'static>; 11] = [
         name: "replay",
         words: "IMAGE INPUT SCHED REPORT",
         text: "    Follows the recording SCHED of a run of IMAGE with INPUT on one thread, and gives the same report and console.
+    REPORT is - for no report.
 ",
         example: "or1k replay program.elf - program.sched again.rep && cmp program.rep again.rep",
     },
@@ -96,6 +99,18 @@ pub(crate) const COMMANDS: [Help<'static>; 11] = [
     symbol table.
 ",
         example: "or1k prof program.elf - program.sched",
+    },
+    Help {
+        name: "trace",
+        words: "IMAGE INPUT SCHED [--core N] [--from T] [--to T]",
+        text: "    Follows a recorded run, and writes to standard output each step of its turns: the pc, the word, the instruction and the
+    exception that it enters, with the names of functions where they begin.
+    --core N         only the turns of core N, 0 to 7
+    --from T         the first turn, counted from 1: 1 to 4294967295, default 1
+    --to T           the last turn, 1 to 4294967295, default the last of the run
+    Options follow the file names, in this order.
+",
+        example: "or1k trace program.elf - program.sched --from 1000 --to 1100",
     },
     Help {
         name: "asm",

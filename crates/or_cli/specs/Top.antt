@@ -2,7 +2,8 @@
 use Rattle.std.specs.Prelude.{ℕ, List, Bool, true, false, Option, Some, None, if◌then◌else◌}
 use Rattle.or_host.specs.HostState.{HostState}
 use Rattle.or_command_line.specs.Command.{CommandModel, command_of}
-use Rattle.or_command_line.specs.Command.CommandModel.{run, hunt, replay, asm, dis, debug, gen, bench, back, race, prof}
+use Rattle.or_command_line.specs.Command.CommandModel.{run, hunt, replay, asm, dis, debug, gen, bench, back, race, prof, trace}
+use Rattle.or_command_line.specs.declared.TraceOptions.{TraceOptions}
 use Rattle.or_command_line.specs.Usage.{usage_sentence}
 use Rattle.or_command.specs.Lines.{usage_lines}
 use Rattle.or_command.specs.Loads.{Load}
@@ -19,6 +20,7 @@ use Rattle.or_recorded.specs.Debug.{debug_fault, MakesSession}
 use Rattle.or_recorded.specs.Back.{back_fault, MakesBackSession}
 use Rattle.or_recorded.specs.Race.{race_fault, MakesRaces}
 use Rattle.or_recorded.specs.Prof.{prof_fault, MakesProfile}
+use Rattle.or_recorded.specs.Trace.{trace_fault, MakesTrace, TraceLacks}
 use Rattle.or_command_source.specs.Assembly.{asm_loads, asm_check, AsmWrites, AsmLacks}
 use Rattle.or_command_source.specs.Listing.{dis_loads, dis_check, DisWrites, DisLacks}
 use Rattle.or_command_source.specs.Generation.{gen_loads, gen_check, GenWrites}
@@ -65,15 +67,21 @@ judged loads Verdict Writes Lacks = record { Ends = AnswersBy loads Verdict Writ
 abbrev pub on_a_run : (Run → Option OwnFault) → (Run → List ℕ → List ℕ → Type 0) → Names → Told
 on_a_run fault Makes names = judged (loads names) (Verdict fault Makes names) (Writes fault Makes names) (CommandLacks names)
 
+-- of a trace, which is written while it is made, so that a prefix of it may be left where memory ran out
+abbrev pub on_a_trace : TraceOptions → Names → Told
+on_a_trace options names =
+    judged (loads names) (Verdict trace_fault (MakesTrace options) names) (Writes trace_fault (MakesTrace options) names) (TraceLacks options names)
+
 -- what stands after a command with this status
 abbrev pub CommandEnds : CommandModel → ℕ → HostState → HostState → Type 0
 CommandEnds (run names options) status old new = RunAnswers names options status old new
 CommandEnds (hunt names options) status old new = HuntAnswers names options status old new
-CommandEnds (replay files report) status old new = (on_a_run replay_fault IsReplayed (with_report files report)).Ends status old new
+CommandEnds (replay files report) status old new = (on_a_run replay_fault (IsReplayed report) (with_report files report)).Ends status old new
 CommandEnds (debug files script) status old new = (on_a_run debug_fault MakesSession (with_script files script)).Ends status old new
 CommandEnds (back files script every) status old new = (on_a_run back_fault MakesBackSession (with_script files script)).Ends status old new
 CommandEnds (race files options) status old new = (on_a_run (race_fault options.places) (MakesRaces options.locks options.places) (run_alone files)).Ends status old new
 CommandEnds (prof files) status old new = (on_a_run prof_fault MakesProfile (run_alone files)).Ends status old new
+CommandEnds (trace files options) status old new = (on_a_trace options (run_alone files)).Ends status old new
 CommandEnds (asm source image symbols) status old new = Answers (asm_loads source) (asm_check source) (AsmWrites image symbols) (AsmLacks source) status old new
 CommandEnds (dis image) status old new = Answers (dis_loads image) (dis_check image) DisWrites (DisLacks image) status old new
 CommandEnds (gen workload source) status old new = Answers gen_loads gen_check (GenWrites workload source) LeavesAll status old new
@@ -83,11 +91,12 @@ CommandEnds (bench workload schedule stay) status old new = Answers bench_loads 
 abbrev pub IsComplete : CommandModel → ℕ → HostState → HostState → Type 0
 IsComplete (run names options) status old new = RunDecided names options status old new
 IsComplete (hunt names options) status old new = HuntDecided names options status old new
-IsComplete (replay files report) status old new = (on_a_run replay_fault IsReplayed (with_report files report)).Decided status old new
+IsComplete (replay files report) status old new = (on_a_run replay_fault (IsReplayed report) (with_report files report)).Decided status old new
 IsComplete (debug files script) status old new = (on_a_run debug_fault MakesSession (with_script files script)).Decided status old new
 IsComplete (back files script every) status old new = (on_a_run back_fault MakesBackSession (with_script files script)).Decided status old new
 IsComplete (race files options) status old new = (on_a_run (race_fault options.places) (MakesRaces options.locks options.places) (run_alone files)).Decided status old new
 IsComplete (prof files) status old new = (on_a_run prof_fault MakesProfile (run_alone files)).Decided status old new
+IsComplete (trace files options) status old new = (on_a_trace options (run_alone files)).Decided status old new
 IsComplete (asm source image symbols) status old new = IsDecided (asm_loads source) (asm_check source) (AsmWrites image symbols) (AsmLacks source) status old new
 IsComplete (dis image) status old new = IsDecided (dis_loads image) (dis_check image) DisWrites (DisLacks image) status old new
 IsComplete (gen workload source) status old new = IsDecided gen_loads gen_check (GenWrites workload source) LeavesAll status old new

@@ -2,10 +2,11 @@
 ghost use Rattle.std.specs.Prelude.{◌≡◌, ◌≢◌, ◌↔◌, ◌⊎◌, ℕ, None, IfSome};
 ghost use Rattle.or_command_line.specs.Words.{texts};
 ghost use Rattle.or_command_line.specs.Command.{command_of};
-ghost use Rattle.or_command_line.specs.Command.CommandModel.{replay, debug, back, race, prof};
+ghost use Rattle.or_command_line.specs.Command.CommandModel.{replay, debug, back, race, prof, trace};
 ghost use Rattle.or_words.specs.Settings.{Fits};
 ghost use Rattle.or_command_line.specs.Names.{run_names, hunt_names, recorded_names, AreWritten, AreRecorded, IsReport};
 ghost use Rattle.or_command.specs.Outcomes.{LeavesAll};
+ghost use Rattle.or_command.specs.Carried.{IsCarriedOut};
 ghost use Rattle.or_command.specs.Answered.{Answers, IsDecided};
 ghost use Rattle.or_command_run.specs.Run.{RunAnswers, RunDecided};
 ghost use Rattle.or_command_hunt.specs.Hunt.{HuntAnswers, HuntDecided};
@@ -20,7 +21,9 @@ ghost use Rattle.or_cli.specs.Top.{threaded_command, lone_command, IsUsage, on_a
 use or_board::Gate;
 use or_command::{conclude, say_usage};
 use or_command_hunt::hunt;
-use or_command_line::{Command, Hunt, RaceOptions, Recorded, Run, Workload, explain, parse};
+use or_command_line::{
+    Command, Hunt, RaceOptions, Recorded, Run, TraceOptions, Workload, explain, parse,
+};
 use or_command_run::{bench, run, run_status, say_budgets};
 use or_command_source::{asm, dis, generate};
 use or_host::Host;
@@ -43,7 +46,7 @@ fn run_command<R: Threads + Wait + Sync, H: Host, G: Gate + Sync>(
     requires stay { FitsStay words.now.options.stay }
     ensures ends { RunAnswers (run_names words.now) words.now.options result (H.state host.old) (H.state host.new) }
     ensures complete { RunDecided (run_names words.now) words.now.options result (H.state host.old) (H.state host.new) }
-    ensures command { result ≢ 2 }
+    ensures command { IsCarriedOut result }
 {
     let ended = run(rt, alloc, words, host, gate);
     let status = conclude(host, ended.outcome);
@@ -58,7 +61,7 @@ fn hunt_command<H: Host>(alloc: Global, words: &Hunt<'_>, host: &mut H) -> u8
     requires range { FitsHunt words.now.options }
     ensures ends { HuntAnswers (hunt_names words.now) words.now.options result (H.state host.old) (H.state host.new) }
     ensures complete { HuntDecided (hunt_names words.now) words.now.options result (H.state host.old) (H.state host.new) }
-    ensures command { result ≢ 2 }
+    ensures command { IsCarriedOut result }
 {
     let outcome = hunt(alloc, words, host);
     conclude(host, outcome)
@@ -81,7 +84,7 @@ fn bench_command<R: Threads + Wait + Sync, H: Host, G: Gate + Sync>(
         result (H.state host.old) (H.state host.new) }
     ensures complete { IsDecided bench_loads (bench_check workload.now) (BenchWrites workload.now schedule.now) LeavesAll
         result (H.state host.old) (H.state host.new) }
-    ensures command { result ≢ 2 }
+    ensures command { IsCarriedOut result }
 {
     let outcome = bench(rt, alloc, workload, schedule, stay, host, gate);
     conclude(host, outcome)
@@ -97,7 +100,7 @@ fn recorded_command<C: RecordedCommand, H: Host>(
     requires names { AreNames (names_of names.now) }
     ensures ends { (on_a_run (C.fault command.now) (C.Makes command.now) (names_of names.now)).Ends result (H.state host.old) (H.state host.new) }
     ensures complete { (on_a_run (C.fault command.now) (C.Makes command.now) (names_of names.now)).Decided result (H.state host.old) (H.state host.new) }
-    ensures command { result ≢ 2 }
+    ensures command { IsCarriedOut result }
 {
     let outcome = carry_out(alloc, names, command, host);
     conclude(host, outcome)
@@ -114,14 +117,14 @@ fn replay_command<'a, H: Host>(
     requires report { IsReport (recorded_names names.now) report.now }
     ensures ends { CommandEnds (replay (recorded_names names.now) report.now) result (H.state host.old) (H.state host.new) }
     ensures complete { IsComplete (replay (recorded_names names.now) report.now) result (H.state host.old) (H.state host.new) }
-    ensures command { result ≢ 2 }
+    ensures command { IsCarriedOut result }
 {
     let names = Names {
         run: *names,
         script: None,
         report: Some(report),
     };
-    recorded_command(alloc, &names, &Replay, host)
+    recorded_command(alloc, &names, &Replay { report }, host)
 }
 
 // Debugs a recorded run, and says how that ended.
@@ -135,7 +138,7 @@ fn debug_command<'a, H: Host>(
     requires script { IsFileName script.now }
     ensures ends { CommandEnds (debug (recorded_names names.now) script.now) result (H.state host.old) (H.state host.new) }
     ensures complete { IsComplete (debug (recorded_names names.now) script.now) result (H.state host.old) (H.state host.new) }
-    ensures command { result ≢ 2 }
+    ensures command { IsCarriedOut result }
 {
     let names = Names {
         run: *names,
@@ -158,7 +161,7 @@ fn back_command<'a, H: Host>(
     requires every { FitsEvery every }
     ensures ends { CommandEnds (back (recorded_names names.now) script.now every) result (H.state host.old) (H.state host.new) }
     ensures complete { IsComplete (back (recorded_names names.now) script.now every) result (H.state host.old) (H.state host.new) }
-    ensures command { result ≢ 2 }
+    ensures command { IsCarriedOut result }
 {
     let names = Names {
         run: *names,
@@ -178,7 +181,7 @@ fn race_command<H: Host>(
     requires names { AreRecorded (recorded_names names.now) }
     ensures ends { CommandEnds (race (recorded_names names.now) options) result (H.state host.old) (H.state host.new) }
     ensures complete { IsComplete (race (recorded_names names.now) options) result (H.state host.old) (H.state host.new) }
-    ensures command { result ≢ 2 }
+    ensures command { IsCarriedOut result }
 {
     let names = Names {
         run: *names,
@@ -203,7 +206,7 @@ fn prof_command<H: Host>(alloc: Global, names: &Recorded<'_>, host: &mut H) -> u
     requires names { AreRecorded (recorded_names names.now) }
     ensures ends { CommandEnds (prof (recorded_names names.now)) result (H.state host.old) (H.state host.new) }
     ensures complete { IsComplete (prof (recorded_names names.now)) result (H.state host.old) (H.state host.new) }
-    ensures command { result ≢ 2 }
+    ensures command { IsCarriedOut result }
 {
     let names = Names {
         run: *names,
@@ -211,6 +214,22 @@ fn prof_command<H: Host>(alloc: Global, names: &Recorded<'_>, host: &mut H) -> u
         report: None,
     };
     recorded_command(alloc, &names, &Prof, host)
+}
+
+// Writes the trace of a recorded run, and says how that ended.
+fn trace_command<H: Host>(
+    alloc: Global,
+    names: &Recorded<'_>,
+    options: &TraceOptions,
+    host: &mut H,
+) -> u8
+    requires names { AreRecorded (recorded_names names.now) }
+    ensures ends { CommandEnds (trace (recorded_names names.now) options.now) result (H.state host.old) (H.state host.new) }
+    ensures complete { IsComplete (trace (recorded_names names.now) options.now) result (H.state host.old) (H.state host.new) }
+    ensures command { IsCarriedOut result }
+{
+    let outcome = or_recorded::trace(alloc, names, options, host);
+    conclude(host, outcome)
 }
 
 // Says that the command line is not valid, and why.
@@ -235,6 +254,7 @@ pub fn top_run<R: Threads + Wait + Sync, H: Host, G: Gate + Sync>(
     ensures usage_line { threaded_command (texts words.now) ≡ None → IsUsage (texts words.now) (H.state host.old) (H.state host.new) }
     ensures command { IfSome (threaded_command (texts words.now)) (λ command. CommandEnds command result (H.state host.old) (H.state host.new)) }
     ensures complete { IfSome (threaded_command (texts words.now)) (λ command. IsComplete command result (H.state host.old) (H.state host.new)) }
+    ensures carried { result ≢ 16 }
 {
     match parse(words) {
         Some(Command::Run(words)) => run_command(rt, alloc, &words, host, gate),
@@ -256,6 +276,7 @@ pub fn top_alone<H: Host>(alloc: Global, words: &[String], host: &mut H) -> u8
     ensures usage_line { lone_command (texts words.now) ≡ None → IsUsage (texts words.now) (H.state host.old) (H.state host.new) }
     ensures command { IfSome (lone_command (texts words.now)) (λ command. CommandEnds command result (H.state host.old) (H.state host.new)) }
     ensures complete { IfSome (lone_command (texts words.now)) (λ command. IsComplete command result (H.state host.old) (H.state host.new)) }
+    ensures carried { result ≢ 16 }
 {
     match parse(words) {
         Some(Command::Replay { files, report }) => replay_command(alloc, &files, report, host),
@@ -279,6 +300,7 @@ pub fn top_alone<H: Host>(alloc: Global, words: &[String], host: &mut H) -> u8
         ) => back_command(alloc, &files, script, every, host),
         Some(Command::Race { files, options }) => race_command(alloc, &files, options, host),
         Some(Command::Prof { files }) => prof_command(alloc, &files, host),
+        Some(Command::Trace { files, options }) => trace_command(alloc, &files, &options, host),
         _ => refuse_words(words, host),
     }
 }
@@ -295,6 +317,7 @@ fn carry_out_words<R: Threads + Wait + Sync, H: Host, G: Gate + Sync>(
     ensures usage_line { command_of (texts words.now) ≡ None → IsUsage (texts words.now) (H.state host.old) (H.state host.new) }
     ensures command { IfSome (command_of (texts words.now)) (λ command. CommandEnds command result (H.state host.old) (H.state host.new)) }
     ensures complete { IfSome (command_of (texts words.now)) (λ command. IsComplete command result (H.state host.old) (H.state host.new)) }
+    ensures carried { result ≢ 16 }
 {
     match parse(words) {
         Some(Command::Run(_) | Command::Bench { .. }) => top_run(rt, alloc, words, host, gate),
@@ -307,6 +330,7 @@ fn carry_out_words<R: Threads + Wait + Sync, H: Host, G: Gate + Sync>(
 /// out, 8 if a file is too long, 9 if the source has a fault, 10 if the script has one, 12 if the symbols that `prof` or
 /// `race --where` reads have one, 14 if no try of a hunt failed, 15 if all was done with `run --status` and a core failed, 16 if an
 /// output and another of its names lead to one file. Of a status other than 0 and 15 it says the line, and then a sentence for people.
+#[tactic(auto, using(crate::proofs::Same::same))]
 pub fn top<R: Threads + Wait + Sync, H: Host, G: Gate + Sync>(
     rt: &R,
     alloc: Global,

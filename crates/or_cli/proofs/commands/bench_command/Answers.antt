@@ -1,9 +1,9 @@
 use Rattle.or_command.specs.Ends.{end_of}
 use Rattle.or_command.specs.Outcomes.{LeavesAll}
 use Rattle.or_command.proofs.OutcomesLemmas.{said_leaves_all}
-use Rattle.or_command.proofs.AnsweredLemmas.{answered, decided, not_two}
+use Rattle.or_command.proofs.AnsweredLemmas.{answered, decided, carried}
 use Rattle.or_command_run.specs.Bench.{bench_loads, bench_check, BenchWrites}
-use Rattle.or_command_run.proofs.Benches.{bench_not_two}
+use Rattle.or_command_run.proofs.Benches.{bench_carried}
 use Rattle.or_cli.proofs.commands.bench_command.Goals as goal
 
 pub returns-clause-ends : goal.returns-clause-ends
@@ -28,5 +28,5 @@ pub returns-clause-command : goal.returns-clause-command
 returns-clause-command g c =
     let numbers = c.args.workload.now in
     let schedule = c.args.schedule.now in
-    not_two bench_loads (bench_check numbers) (BenchWrites numbers schedule) LeavesAll c.conclude.result
-    (g.H.Host.state c.args.host.now) (g.H.Host.state c.conclude.new.host) (bench_not_two numbers) (returns-clause-ends g c)
+    carried bench_loads (bench_check numbers) (BenchWrites numbers schedule) LeavesAll c.conclude.result
+    (g.H.Host.state c.args.host.now) (g.H.Host.state c.conclude.new.host) (bench_carried numbers) (returns-clause-ends g c)

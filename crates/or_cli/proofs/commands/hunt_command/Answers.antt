@@ -1,9 +1,9 @@
 use Rattle.or_command_line.specs.Names.{hunt_names}
 use Rattle.or_command.specs.Ends.{end_of}
 use Rattle.or_command.proofs.OutcomesLemmas.{said_lacks}
-use Rattle.or_command.proofs.AnsweredLemmas.{answered_by, decided_by, not_two_by}
+use Rattle.or_command.proofs.AnsweredLemmas.{answered_by, decided_by, carried_by}
 use Rattle.or_command_hunt.specs.Hunt.{hunt_loads, HuntVerdict, HuntWrites, HuntLacks, hunt_image_check}
-use Rattle.or_command_hunt.proofs.Hunts.{hunt_not_two}
+use Rattle.or_command_hunt.proofs.Hunts.{hunt_carried}
 use Rattle.std.proofs.Common.{◌≡◌, None}
 use Rattle.or_cli.proofs.commands.hunt_command.Goals as goal
 
@@ -37,5 +37,5 @@ returns-clause-command g c =
     let names = hunt_names c.args.words.now in
     let options = c.args.words.now.options in
     let ends = returns-clause-ends g c in
-    not_two_by (hunt_loads names) (HuntVerdict names options) (HuntWrites names options) (HuntLacks names options) c.conclude.result ends.heard
-    (g.H.Host.state c.conclude.new.host) (hunt_not_two names options) ends.answers
+    carried_by (hunt_loads names) (HuntVerdict names options) (HuntWrites names options) (HuntLacks names options) c.conclude.result ends.heard
+    (g.H.Host.state c.conclude.new.host) (hunt_carried names options) ends.answers

@@ -1,9 +1,9 @@
 use Rattle.or_command.specs.Ends.{end_of}
 use Rattle.or_command.proofs.OutcomesLemmas.{said_lacks}
-use Rattle.or_command.proofs.AnsweredLemmas.{answered_by, decided_by, not_two_by}
+use Rattle.or_command.proofs.AnsweredLemmas.{answered_by, decided_by, carried_by}
 use Rattle.or_recorded.specs.Files.{names_of, loads}
 use Rattle.or_recorded.specs.Command.{Verdict, Writes, CommandLacks, FilesRunShort}
-use Rattle.or_recorded.proofs.Statuses.{command_not_two}
+use Rattle.or_recorded.proofs.Statuses.{command_carried}
 use Rattle.or_cli.proofs.commands.recorded_command.Goals as goal
 
 pub returns-clause-ends : goal.returns-clause-ends
@@ -31,5 +31,5 @@ returns-clause-command g c =
     let fault = g.C.RecordedCommand.fault c.args.command.now in
     let makes = g.C.RecordedCommand.Makes c.args.command.now in
     let names = names_of c.args.names.now in
-    not_two_by (loads names) (Verdict fault makes names) (Writes fault makes names) (CommandLacks names) c.conclude.result
-    (g.H.Host.state c.args.host.now) (g.H.Host.state c.conclude.new.host) (command_not_two fault makes names) (returns-clause-ends g c)
+    carried_by (loads names) (Verdict fault makes names) (Writes fault makes names) (CommandLacks names) c.conclude.result
+    (g.H.Host.state c.args.host.now) (g.H.Host.state c.conclude.new.host) (command_carried fault makes names) (returns-clause-ends g c)

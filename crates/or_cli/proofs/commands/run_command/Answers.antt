@@ -1,11 +1,12 @@
-use Rattle.std.proofs.Common.{◌≡◌, ◌≢◌, ℕ, List, None, subst, sym}
+use Rattle.std.proofs.Common.{◌≡◌, ℕ, List, None, subst, sym}
 use Rattle.or_command_line.specs.Names.{run_names}
 use Rattle.or_command.specs.Ends.{end_of}
+use Rattle.or_command.specs.Carried.{IsCarriedOut}
 use Rattle.or_command.proofs.OutcomesLemmas.{said_lacks}
-use Rattle.or_command.proofs.AnsweredLemmas.{answered, decided, not_two}
+use Rattle.or_command.proofs.AnsweredLemmas.{answered, decided, carried}
 use Rattle.or_command_run.specs.Run.{run_loads, run_check, RunWrites, RunLacks}
 use Rattle.or_command_run.specs.Budgets.{AreSaidBehind}
-use Rattle.or_command_run.proofs.Runs.{run_not_two, run_status_not_two}
+use Rattle.or_command_run.proofs.Runs.{run_carried, run_status_carried}
 use Rattle.or_command_run.proofs.Behind.{decided_behind}
 use Rattle.or_cli.proofs.commands.run_command.Goals as goal
 
@@ -51,7 +52,7 @@ returns-clause-command g c =
     let names = run_names c.args.words.now in
     let options = c.args.words.now.options in
     let ends = returns-clause-ends g c in
-    subst (λ (status : ℕ). status ≢ 2) (sym ends.status_is)
-    (run_status_not_two options.status ends.failed ends.plain
-    (not_two (run_loads names) (run_check names options.config) (RunWrites names options.config ends.failed ends.lines) (RunLacks names options.config) ends.plain
-    (g.H.Host.state c.args.host.now) ends.ended (run_not_two names options.config) ends.answers))
+    subst IsCarriedOut (sym ends.status_is)
+    (run_status_carried options.status ends.failed ends.plain
+    (carried (run_loads names) (run_check names options.config) (RunWrites names options.config ends.failed ends.lines) (RunLacks names options.config) ends.plain
+    (g.H.Host.state c.args.host.now) ends.ended (run_carried names options.config) ends.answers))
