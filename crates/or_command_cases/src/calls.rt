@@ -5,6 +5,7 @@ ghost use Rattle.or_host.specs.Calls.{IsName};
 use crate::bytes::{read, shown};
 use crate::fault::CaseFault;
 use or_host::{Failed, FileHost, Host, LoadFail, SureHost};
+use or_words::limits::NAME_LIMIT;
 use std::alloc::Global;
 use std::io::Write;
 use std::{fs, io};
@@ -59,7 +60,7 @@ fn call_on<R: Print, H: Host>(
     rest: &str,
 ) -> Result<(), CaseFault> {
     let (name, text) = rest.split_once(' ').unwrap_or((rest, ""));
-    if name.len() > 4095 || name == "-" {
+    if name.len() > NAME_LIMIT || name == "-" {
         return Err(CaseFault::Form);
     }
     let word = match verb {

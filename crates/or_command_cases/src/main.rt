@@ -16,7 +16,7 @@ use std::process::ExitCode;
 use std::sync::Wait;
 use std::thread::Threads;
 
-const FILES: [&str; 14] = [
+const FILES: [&str; 15] = [
     "host.cases",
     "images.cases",
     "line.cases",
@@ -31,6 +31,7 @@ const FILES: [&str; 14] = [
     "worked.cases",
     "hostile.cases",
     "names.cases",
+    "dashes.cases",
 ];
 
 // Does what the lines of a file say.

@@ -128,6 +128,13 @@ fn print_command<R: Print>(rt: &R, command: &Command<'_>) -> Result<(), CaseFaul
             print_recorded(rt, "prof", files)?;
             println!(rt; "")?;
         }
+        Command::Trace { files, options } => {
+            print_recorded(rt, "trace", files)?;
+            if let Some(core) = options.core {
+                print!(rt; " core {core}")?;
+            }
+            println!(rt; " from {} to {}", options.from, options.to)?;
+        }
     }
     Ok(())
 }
