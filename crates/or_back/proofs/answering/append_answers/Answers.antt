@@ -1,4 +1,4 @@
-use Rattle.or_debug.proofs.Results.{on_err_always}
+use Rattle.or_text.proofs.Kept.{on_err_always}
 use Rattle.or_back.specs.Backward.{state_at}
 use Rattle.or_back.proofs.Sessions.{up_to_more, up_to_some}
 use Rattle.or_back.proofs.answering.append_answers.Goals as goal
