@@ -4,11 +4,11 @@ use Rattle.std.proofs.lemmas.Grind.{common_steps}
 use Rattle.std.proofs.lemmas.Bool.Decides.{nat_tests}
 use Rattle.std.proofs.lemmas.List.Sums.{sum_by-append}
 use Rattle.std.proofs.lemmas.List.{length-append}
-use Rattle.std.specs.Prelude.{IfSome, slice_get, slice_index, slice_set, count_by, if◌then◌else◌, nat_lt}
+use Rattle.std.specs.Prelude.{IfSome, slice_get, slice_index, slice_set, count_by, if◌then◌else◌, nat_lt, ◌&&◌}
 use Rattle.or_elf.specs.declared.symbols.Symbol.{Symbol as Function}
 use Rattle.or_elf.specs.Symbols.{SymbolTable, covers, later_start, innermost, function_of}
-use Rattle.or_prof.specs.Tally.{Counts, count_in, counted, AreBelow}
-use Rattle.or_prof.specs.Profile.{is_same, AreCounts}
+use Rattle.or_prof.specs.Tally.{Counts, Spotted, count_in, counted, is_none, IsCounted, AreBelow}
+use Rattle.or_prof.specs.Profile.{is_same, spot_count, AreCounts}
 
 one_of : (P : Function → Type 0) (b : Bool) (first second : Function) → P first → P second → IfSome (cond b (Some second) (Some first)) P
 one_of P true first second is also = also
@@ -48,36 +48,44 @@ raised_at : (xs : List ℕ) (i j : ℕ) → i < length xs → slice_index (slice
 raised_at xs i j inside = grind (arith, common_steps, nat_tests)
 
 -- one count rises by one
-count_more : (counts : Counts) (found function : Option ℕ) → IfSome found (λ index. index < length counts.by_index)
-    → count_in (counted counts found) function ≡ count_in counts function + cond (is_same found function) 1 0
-count_more counts None None known = refl
-count_more counts None (Some other) known = sym (add-zero (slice_index counts.by_index other))
-count_more counts (Some index) None known = sym (add-zero counts.outside)
-count_more counts (Some index) (Some other) known = raised_at counts.by_index index other known
+count_more : (counts : Counts) (found function : Option ℕ) (spots : Spotted) → IfSome found (λ index. index < length counts.by_index)
+    → count_in (counted counts found spots) function ≡ count_in counts function + cond (is_same found function) 1 0
+count_more counts None None spots known = refl
+count_more counts None (Some other) spots known = sym (add-zero (slice_index counts.by_index other))
+count_more counts (Some index) None spots known = sym (add-zero counts.outside)
+count_more counts (Some index) (Some other) spots known = raised_at counts.by_index index other known
 
-pub steps_more : (counts : Counts) (found : Option ℕ) → (counted counts found).steps ≡ counts.steps + 1
-steps_more counts None = refl
-steps_more counts (Some index) = refl
+steps_more : (counts : Counts) (found : Option ℕ) (spots : Spotted) → (counted counts found spots).steps ≡ counts.steps + 1
+steps_more counts None spots = refl
+steps_more counts (Some index) spots = refl
 
-pub size_same : (counts : Counts) (found : Option ℕ) → length (counted counts found).by_index ≡ length counts.by_index
-size_same counts None = refl
-size_same counts (Some index) = grind (arith, common_steps)
+pub steps_counted : (hot : Bool) (counts new : Counts) (found : Option ℕ) (pc : ℕ) → IsCounted hot counts found pc new → new.steps ≡ counts.steps + 1
+steps_counted hot counts new found pc is = ap (λ (c : Counts). c.steps) is.counts ∙ steps_more counts found new.spots
 
 count_snoc : (p : ℕ → Bool) (items : List ℕ) (pc : ℕ) → count_by p (items ++ pc ∷ []) ≡ count_by p items + cond (p pc) 1 0
 count_snoc p items pc = sum_by-append (λ other. cond (p other) 1 0) items (pc ∷ []) ∙ ap (λ n. count_by p items + n) (zero-add (cond (p pc) 1 0))
 
-pub counted_is : (symbols : SymbolTable) (items : List ℕ) (pc : ℕ) (counts : Counts) → AreBelow (length counts.by_index) symbols.functions → AreCounts symbols items counts
-    → AreCounts symbols (items ++ pc ∷ []) (counted counts (function_of symbols pc))
-counted_is symbols items pc counts below are = record {
-  each = λ function. count_more counts (function_of symbols pc) function (function_known (length counts.by_index) symbols pc below)
+-- the pc of one item more
+spots_more : (hot : Bool) (symbols : SymbolTable) (items : List ℕ) (pc other : ℕ)
+    → spot_count hot symbols (items ++ pc ∷ []) other ≡ spot_count hot symbols items other + cond (hot && (is_none (function_of symbols pc) && (pc == other))) 1 0
+spots_more false symbols items pc other = refl
+spots_more true symbols items pc other = count_snoc (λ item. is_none (function_of symbols item) && (item == other)) items pc
+
+pub counted_is : (hot : Bool) (symbols : SymbolTable) (items : List ℕ) (pc : ℕ) (counts new : Counts) → AreBelow (length counts.by_index) symbols.functions
+    → IsCounted hot counts (function_of symbols pc) pc new → AreCounts hot symbols items counts → AreCounts hot symbols (items ++ pc ∷ []) new
+counted_is hot symbols items pc counts new below is are = record {
+  each = λ function. ap (λ (c : Counts). count_in c function) is.counts
+      ∙ (count_more counts (function_of symbols pc) function new.spots (function_known (length counts.by_index) symbols pc below)
       ∙ (ap (λ n. n + cond (is_same (function_of symbols pc) function) 1 0) (are.each function)
-      ∙ sym (count_snoc (λ other. is_same (function_of symbols other) function) items pc));
-  steps = steps_more counts (function_of symbols pc) ∙ (ap (λ n. n + 1) are.steps ∙ sym (length-append items (pc ∷ [])));
+      ∙ sym (count_snoc (λ other. is_same (function_of symbols other) function) items pc)));
+  spots = λ other. is.spots other
+      ∙ (ap (λ n. n + cond (hot && (is_none (function_of symbols pc) && (pc == other))) 1 0) (are.spots other) ∙ sym (spots_more hot symbols items pc other));
+  steps = steps_counted hot counts new (function_of symbols pc) pc is ∙ (ap (λ n. n + 1) are.steps ∙ sym (length-append items (pc ∷ [])));
 }
 
-pub counted_by : (symbols : SymbolTable) (items : List ℕ) (pc : ℕ) (found : Option ℕ) (counts new : Counts) → found ≡ function_of symbols pc → new ≡ counted counts found
-    → AreBelow (length counts.by_index) symbols.functions → AreCounts symbols items counts → AreCounts symbols (items ++ pc ∷ []) new
-counted_by symbols items pc found counts new function is below are =
-    subst (AreCounts symbols (items ++ pc ∷ [])) (sym (is ∙ ap (counted counts) function)) (counted_is symbols items pc counts below are)
+pub counted_by : (hot : Bool) (symbols : SymbolTable) (items : List ℕ) (pc : ℕ) (found : Option ℕ) (counts new : Counts) → found ≡ function_of symbols pc
+    → IsCounted hot counts found pc new → AreBelow (length counts.by_index) symbols.functions → AreCounts hot symbols items counts → AreCounts hot symbols (items ++ pc ∷ []) new
+counted_by hot symbols items pc found counts new function is below are =
+    counted_is hot symbols items pc counts new below (subst (λ (f : Option ℕ). IsCounted hot counts f pc new) function is) are
 
-pub ruleset counting = (function_known, steps_more, size_same)
+pub ruleset counting = (function_known, steps_counted)

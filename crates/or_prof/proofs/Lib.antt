@@ -1,8 +1,10 @@
 pub mod Added
 pub mod CoreTexts
 pub mod Counting
+pub mod Entries
 pub mod Fitting
 pub mod Gets
 pub mod OneText
 pub mod Sums
 pub mod Spans
+pub mod Vectors

@@ -1,5 +1,5 @@
 //! Laws of the profile, as contracts of functions that do nothing.
-ghost use Rattle.std.specs.Prelude.{◌≡◌, ◌+◌, ℕ, List, None, length, sum_by};
+ghost use Rattle.std.specs.Prelude.{◌≡◌, ◌+◌, ℕ, Bool, List, None, length, sum_by};
 ghost use Rattle.or_elf.specs.Symbols.{symbols_of};
 ghost use Rattle.or_prof.specs.declared.ranking.Line.{Line as LineModel};
 ghost use Rattle.or_prof.specs.Profile.{Addition, count_of};
@@ -17,8 +17,8 @@ pub fn counts_sum_to_items(bytes: &[u8])
 
 /// What was added has one text.
 pub fn additions_have_one_text(symbols: &Symbols)
-    ensures { (cores : ℕ) (additions : List Addition) (text other : List ℕ) → IsProfText cores symbols.now additions text
-        → IsProfText cores symbols.now additions other → text ≡ other }
+    ensures { (hot : Bool) (cores : ℕ) (additions : List Addition) (text other : List ℕ) → IsProfText hot cores symbols.now additions text
+        → IsProfText hot cores symbols.now additions other → text ≡ other }
 {
     let _ = symbols;
 }

@@ -1,18 +1,19 @@
 // The lines of a core in their order.
 ghost use Rattle.std.specs.Prelude.{◌≡◌, ◌≤◌, ◌<◌, OnOk, OnErr, length, vec_capacity};
-ghost use Rattle.or_prof.specs.Tally.{AreBelow, count_in};
-ghost use Rattle.or_prof.specs.Text.{lines_of, AreRanked};
+ghost use Rattle.or_prof.specs.Tally.{AreBelow, count_in, spot_at};
+ghost use Rattle.std.specs.List.Sorted.{IsPermutation, IsSorted};
+ghost use Rattle.or_prof.specs.Text.{rank as rank_of, lines_of, AreRanked, AreSpots};
 
 use crate::tallying::Tally;
 use or_elf::Symbol as Function;
 use std::alloc::AllocError;
 use std::cmp::Reverse;
 
-// How many items a function has, and its index.
+// How many items a function has, and its index; or how many items a pc has that no function has, and the pc.
 #[derive(Clone, Copy)]
 pub struct Line {
     pub count: u32,
-    pub index: u32,
+    pub key: u32,
 }
 
 // Makes the lines of the functions that have a count, in the order of the symbol table.
@@ -28,7 +29,7 @@ fn fill(functions: &[Function], tally: &Tally, lines: &mut Vec<Line>) -> Result<
         if count > 0 {
             lines.push(Line {
                 count,
-                index: function.index,
+                key: function.index,
             })?;
         }
     }
@@ -43,6 +44,26 @@ pub fn rank(functions: &[Function], tally: &Tally, lines: &mut Vec<Line>) -> Res
     ensures capacity { vec_capacity lines.old ≤ vec_capacity lines.new }
 {
     fill(functions, tally, lines)?;
-    lines.sort_unstable_by_key(|line| (Reverse(line.count), line.index));
+    put_in_order(lines);
     Ok(())
+}
+
+// Makes the lines of the pcs that have a count, ranked: the greatest count first, and of equal counts the least pc.
+pub fn rank_spots(tally: &Tally, lines: &mut Vec<Line>) -> Result<(), AllocError>
+    ensures spots { OnOk result (AreSpots (spot_at tally.now.spots) lines.new.items) }
+    ensures order { OnOk result (IsSorted rank_of lines.new.items) }
+    ensures full { OnErr result (vec_capacity lines.old < length tally.now.spots) }
+    ensures capacity { vec_capacity lines.old ≤ vec_capacity lines.new }
+{
+    tally.spots().list(lines)?;
+    put_in_order(lines);
+    Ok(())
+}
+
+fn put_in_order(lines: &mut Vec<Line>)
+    ensures same { IsPermutation lines.old.items lines.new.items }
+    ensures order { IsSorted rank_of lines.new.items }
+    ensures capacity { vec_capacity lines.old ≤ vec_capacity lines.new }
+{
+    lines.sort_unstable_by_key(|line| (Reverse(line.count), line.key));
 }

@@ -12,7 +12,7 @@ loop-core-preserved c = record {
   texts = λ additions is.
       let core = c.loop-core.core in
       let tally = c.index-tallies-core.result in
-      core_more c.args.symbols.now additions core tally c.extend_from_slice.new.self.items c.loop-core.out.items c.append_core.new.out.items
+      core_more c.args.hot c.args.symbols.now additions core tally c.extend_from_slice.new.self.items c.loop-core.out.items c.append_core.new.out.items
       (is.counts core tally (slice_get_read c.args.tallies.now (length c.args.tallies.now) core tally refl c.loop-core-test.true c.index-tallies-core.is))
       (c.loop-core.invariant.texts additions is) c.in_ok-append_core.ensures.text;
   capacity = omega arith;
@@ -26,7 +26,7 @@ returns-in_err-append_core-clause-full c = on_err_always c.from_residual-in_err-
     let core = c.loop-core.core in
     let tally = c.index-tallies-core.result in
     let counts = is.counts core tally (slice_get_read c.args.tallies.now (length c.args.tallies.now) core tally refl c.loop-core-test.true c.index-tallies-core.is) in
-    profile_lacks c.args.symbols.now additions core (length c.args.tallies.now) _ _ _ _ tally c.args.out.now.items c.extend_from_slice.new.self.items c.loop-core.out.items text c.loop-core-test.true counts
+    profile_lacks c.args.hot c.args.symbols.now additions core (length c.args.tallies.now) _ _ _ _ tally c.args.out.now.items c.extend_from_slice.new.self.items c.loop-core.out.items text c.loop-core-test.true counts
     (search rules) (c.loop-core.invariant.texts additions is) (search rules) (search rules) (omega arith) (λ own is_own. c.in_err-append_core.ensures.full own is_own) is_text)
 
 pub returns-in_err-append_core-clause-kept : goal.returns-in_err-append_core-clause-kept

@@ -8,7 +8,7 @@ pub returns-in_err-append_line-clause-full : goal.returns-in_err-append_line-cla
 returns-in_err-append_line-clause-full c =
     let shown = line_text c.args.symbols.now in
     let here = c.loop-line.line-index in
-    let within = length-flat_map-take shown c.args.lines.now here (record { count = 0; index = 0 }) (search rules) in
+    let within = length-flat_map-take shown c.args.lines.now here (record { count = 0; key = 0 }) (search rules) in
     let written = ap length c.loop-line.invariant.text ∙ length-append c.args.out.now.items (flat_map shown (take here c.args.lines.now)) in
     let lacks = c.in_err-append_line.ensures.full in
     let more = c.loop-line.invariant.capacity in
