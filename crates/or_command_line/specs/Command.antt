@@ -11,7 +11,7 @@ use Rattle.or_command_line.specs.declared.Command.{Command}
 use Rattle.or_command_line.specs.declared.Command.TheVariants.{Run as IsRun, Hunt as IsHunt, Replay as IsReplay, Asm as IsAsm, Dis as IsDis, Debug as IsDebug, Gen as IsGen, Bench as IsBench, Back as IsBack, Race as IsRace, Prof as IsProf, Trace as IsTrace}
 use Rattle.or_command_line.specs.Words.{is_name, differ, IsFileName}
 use Rattle.or_command_line.specs.Names.{Names, Recorded, recorded_names, run_names, hunt_names, are_recorded, is_report, are_run_names, AreRecorded, IsReport, AreWritten, IsAssembly}
-use Rattle.or_command_line.specs.Settings.{run_options_of, hunt_options_of, stay_alone_of, every_of, FitsStay, FitsHunt, FitsEvery, symbols_alone_of, race_options_of, FitsTrace, trace_options_of}
+use Rattle.or_command_line.specs.Settings.{run_options_of, hunt_options_of, stay_alone_of, every_of, FitsStay, FitsHunt, FitsEvery, flag_alone_of, race_options_of, FitsTrace, trace_options_of}
 use Rattle.or_command_line.specs.Workloads.{workload_of, FitsWorkload}
 
 -- a command as contracts see it
@@ -26,7 +26,7 @@ pub data CommandModel : Type 0 where
   bench : Workload → List ℕ → ℕ → CommandModel
   back : Recorded → List ℕ → ℕ → CommandModel
   race : Recorded → RaceOptions → CommandModel
-  prof : Recorded → CommandModel
+  prof : Recorded → Bool → CommandModel
   trace : Recorded → TraceOptions → CommandModel
 
 abbrev pub run_with : Names → Option RunOptions → Option CommandModel
@@ -67,7 +67,7 @@ asm_where source image None = None
 asm_where source image (Some symbols) = if (is_name source && is_name image) && differ image source then Some (asm source image symbols) else None
 
 unfoldable pub asm_of : List (List ℕ) → Option CommandModel
-asm_of (source ∷ image ∷ options) = asm_where source image (symbols_alone_of options)
+asm_of (source ∷ image ∷ options) = asm_where source image (flag_alone_of (codes "--symbols") options)
 asm_of _ = None
 
 -- `IMAGE`
@@ -119,17 +119,17 @@ unfoldable pub trace_of : List (List ℕ) → Option CommandModel
 trace_of (image ∷ input ∷ schedule ∷ options) = trace_where (record { image = image; input = input; schedule = schedule }) options
 trace_of _ = None
 
--- `IMAGE INPUT SCHED`
-abbrev pub recorded_where : Recorded → Option Recorded
-recorded_where files = if are_recorded files then Some files else None
+-- `IMAGE INPUT SCHED [--hot]`
+abbrev pub prof_with : Recorded → Option Bool → Option CommandModel
+prof_with files None = None
+prof_with files (Some hot) = Some (prof files hot)
 
-unfoldable pub recorded_of : List (List ℕ) → Option Recorded
-recorded_of (image ∷ input ∷ schedule ∷ []) = recorded_where (record { image = image; input = input; schedule = schedule })
-recorded_of _ = None
+abbrev pub prof_where : Recorded → List (List ℕ) → Option CommandModel
+prof_where files options = if are_recorded files then prof_with files (flag_alone_of (codes "--hot") options) else None
 
-abbrev pub as_prof : Option Recorded → Option CommandModel
-as_prof None = None
-as_prof (Some files) = Some (prof files)
+unfoldable pub prof_of : List (List ℕ) → Option CommandModel
+prof_of (image ∷ input ∷ schedule ∷ options) = prof_where (record { image = image; input = input; schedule = schedule }) options
+prof_of _ = None
 
 -- `SEED CORES ROUNDS SRC`
 abbrev pub gen_with : List ℕ → Option Workload → Option CommandModel
@@ -172,7 +172,7 @@ command_of (verb ∷ words) =
     if bytes_eq verb (codes "debug") then debug_of words else
     if bytes_eq verb (codes "back") then back_of words else
     if bytes_eq verb (codes "race") then race_of words else
-    if bytes_eq verb (codes "prof") then as_prof (recorded_of words) else
+    if bytes_eq verb (codes "prof") then prof_of words else
     if bytes_eq verb (codes "trace") then trace_of words else
     program_command verb words
 
@@ -188,7 +188,7 @@ shown_command (IsGen workload source) = gen workload source.now
 shown_command (IsBench workload schedule stay) = bench workload schedule.now stay
 shown_command (IsBack files script every) = back (recorded_names files) script.now every
 shown_command (IsRace files options) = race (recorded_names files) options
-shown_command (IsProf files) = prof (recorded_names files)
+shown_command (IsProf files hot) = prof (recorded_names files) hot
 shown_command (IsTrace files options) = trace (recorded_names files) options
 
 -- the names of a command are names of files, the written ones differ from each other one, and its numbers are in their ranges
@@ -203,5 +203,5 @@ AreNamesOf (gen workload source) = FitsWorkload workload × IsFileName source
 AreNamesOf (bench workload schedule stay) = FitsWorkload workload × IsFileName schedule × FitsStay stay
 AreNamesOf (back files script every) = AreRecorded files × IsFileName script × FitsEvery every
 AreNamesOf (race files options) = AreRecorded files
-AreNamesOf (prof files) = AreRecorded files
+AreNamesOf (prof files hot) = AreRecorded files
 AreNamesOf (trace files options) = AreRecorded files × FitsTrace options

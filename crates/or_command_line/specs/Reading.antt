@@ -53,6 +53,8 @@ is_option verb word =
     if bytes_eq verb (codes "back") then bytes_eq word (codes "--every") else
     if bytes_eq verb (codes "bench") then bytes_eq word (codes "--stay") else
     if bytes_eq verb (codes "race") then bytes_eq word (codes "--locks") || bytes_eq word (codes "--where") else
+    if bytes_eq verb (codes "prof") then bytes_eq word (codes "--hot") else
+    if bytes_eq verb (codes "trace") then bytes_eq word (codes "--core") || (bytes_eq word (codes "--from") || bytes_eq word (codes "--to")) else
     false
 
 abbrev pub missing : List ℕ → List ℕ → List ℕ

@@ -138,9 +138,9 @@ abbrev pub flag_without_rest : Bool × List (List ℕ) → Option Bool
 flag_without_rest (given, []) = Some given
 flag_without_rest (given, word ∷ rest) = None
 
--- the option `[--symbols]` alone; none where another word stands
-unfoldable pub symbols_alone_of : List (List ℕ) → Option Bool
-symbols_alone_of words = flag_without_rest (flag_of (codes "--symbols") words)
+-- an option without a number alone, as `[--symbols]`; none where another word stands
+unfoldable pub flag_alone_of : List ℕ → List (List ℕ) → Option Bool
+flag_alone_of name words = flag_without_rest (flag_of name words)
 
 abbrev pub race_options_with_places : Bool → Bool × List (List ℕ) → Option RaceOptions
 race_options_with_places locks (places, []) = Some (record { locks = locks; places = places })

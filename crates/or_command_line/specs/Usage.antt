@@ -92,9 +92,9 @@ trace_usage words =
     (then_option (codes "trace") (codes "--from") (Number 1 4294967295)
     (then_option (codes "trace") (codes "--core") (Number 0 7) (recorded_words (codes "trace") words))))
 
--- `IMAGE INPUT SCHED`
-abbrev pub recorded_usage : List ℕ → List (List ℕ) → List ℕ
-recorded_usage verb words = then_end verb words (recorded_words verb words)
+-- `IMAGE INPUT SCHED [--hot]`
+abbrev pub prof_usage : List (List ℕ) → List ℕ
+prof_usage words = then_end (codes "prof") words (then_flag (codes "--hot") (recorded_words (codes "prof") words))
 
 -- `SRC IMAGE [--symbols]`
 unfoldable pub image_apart : List ℕ → List ℕ → SoFar → SoFar
@@ -152,6 +152,6 @@ usage_sentence (verb ∷ words) =
     if bytes_eq verb (codes "debug") then debug_usage words else
     if bytes_eq verb (codes "back") then back_usage words else
     if bytes_eq verb (codes "race") then race_usage words else
-    if bytes_eq verb (codes "prof") then recorded_usage (codes "prof") words else
+    if bytes_eq verb (codes "prof") then prof_usage words else
     if bytes_eq verb (codes "trace") then trace_usage words else
     program_usage verb words

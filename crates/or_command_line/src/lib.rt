@@ -144,8 +144,10 @@ pub enum Command<'a> {
         files: Recorded<'a>,
         options: RaceOptions,
     },
+    /// With or without the pcs outside of functions that have the most steps.
     Prof {
         files: Recorded<'a>,
+        hot: bool,
     },
     Trace {
         files: Recorded<'a>,

@@ -3,7 +3,7 @@ ghost use Rattle.std.specs.Prelude.{◌≡◌, ◌<◌, None, Some, MatchOption,
 ghost use Rattle.or_words.specs.Settings.{Fits};
 ghost use Rattle.or_words.specs.declared.limits.TheConstants.{MOST_CORES};
 ghost use Rattle.or_command_line.specs.Words.{texts};
-ghost use Rattle.or_command_line.specs.Settings.{option_of, flag_of, latch_of, config_of, config_fits, stay_of, stay_fits, FitsStay, run_options_of, hunt_options_of, hunt_fits, FitsHunt, stay_alone_of, every_of, every_fits, FitsEvery, symbols_alone_of, race_options_of, given_of, core_fits, trace_fits, FitsTrace, trace_options_of};
+ghost use Rattle.or_command_line.specs.Settings.{option_of, flag_of, latch_of, config_of, config_fits, stay_of, stay_fits, FitsStay, run_options_of, hunt_options_of, hunt_fits, FitsHunt, stay_alone_of, every_of, every_fits, FitsEvery, flag_alone_of, race_options_of, given_of, core_fits, trace_fits, FitsTrace, trace_options_of};
 
 use crate::defaults::{
     DEFAULT_BUDGET, DEFAULT_CORES, DEFAULT_EVERY, DEFAULT_FROM, DEFAULT_HUNT_CORES, DEFAULT_RAM,
@@ -208,13 +208,13 @@ pub(crate) fn stay_alone(words: &[String]) -> Option<u32>
     if rest.is_empty() { Some(stay) } else { None }
 }
 
-/// Whether the image gets symbols, where no other option may stand.
-#[tactic(auto, unfolding(crate::specs::Settings::symbols_alone_of))]
-pub(crate) fn symbols_alone(words: &[String]) -> Option<bool>
-    ensures value { result ≡ symbols_alone_of (texts words.now) }
+/// Whether an option without a number is given, where no other option may stand.
+#[tactic(auto, unfolding(crate::specs::Settings::flag_alone_of))]
+pub(crate) fn flag_alone(name: &str, words: &[String]) -> Option<bool>
+    ensures value { result ≡ flag_alone_of name.now (texts words.now) }
 {
-    let (symbols, rest) = flag("--symbols", words);
-    if rest.is_empty() { Some(symbols) } else { None }
+    let (given, rest) = flag(name, words);
+    if rest.is_empty() { Some(given) } else { None }
 }
 
 /// The options of a race report.

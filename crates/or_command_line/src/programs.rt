@@ -5,7 +5,7 @@ ghost use Rattle.or_command_line.specs.Workloads.{workload_of, workload_fits, Fi
 ghost use Rattle.or_command_line.specs.Command.{asm_of, dis_of, gen_of, bench_of, shown_command, AreNamesOf};
 
 use crate::names::is_name;
-use crate::options::{stay_alone, symbols_alone};
+use crate::options::{flag_alone, stay_alone};
 use crate::{Command, Workload};
 use or_text::numerals::read_decimal;
 use or_words::limits::{MOST_CORES, MOST_ROUNDS};
@@ -19,7 +19,7 @@ pub(crate) fn parse_asm(words: &[String]) -> Option<Command<'_>>
     let [source, image, options @ ..] = words else {
         return None;
     };
-    let Some(symbols) = symbols_alone(options) else {
+    let Some(symbols) = flag_alone("--symbols", options) else {
         return None;
     };
     let source = source.as_str();

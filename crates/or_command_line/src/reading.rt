@@ -97,6 +97,8 @@ fn is_option(verb: &str, word: &str) -> bool
         "back" => word == "--every",
         "bench" => word == "--stay",
         "race" => word == "--locks" || word == "--where",
+        "prof" => word == "--hot",
+        "trace" => word == "--core" || word == "--from" || word == "--to",
         _ => false,
     }
 }

@@ -3,10 +3,10 @@ ghost use Rattle.std.specs.Prelude.{◌≡◌, None, Some, MatchOption, IfSome, 
 ghost use Rattle.or_words.specs.Settings.{Fits};
 ghost use Rattle.or_command_line.specs.Words.{texts};
 ghost use Rattle.or_command_line.specs.Names.{run_names, recorded_names, are_run_names, AreRecorded, AreWritten};
-ghost use Rattle.or_command_line.specs.Command.{run_of, hunt_of, replay_of, debug_of, back_of, race_of, trace_of, recorded_of, as_prof, shown_command, AreNamesOf};
+ghost use Rattle.or_command_line.specs.Command.{run_of, hunt_of, replay_of, debug_of, back_of, race_of, trace_of, prof_of, shown_command, AreNamesOf};
 
 use crate::names::{are_recorded, are_written, is_name, is_report};
-use crate::options::{every, hunt_options, race_options, run_options, trace_options};
+use crate::options::{every, flag_alone, hunt_options, race_options, run_options, trace_options};
 use crate::{Command, Hunt, Recorded, Run};
 
 /// `IMAGE INPUT SCHED REPORT` and options.
@@ -141,27 +141,6 @@ pub(crate) fn parse_back(words: &[String]) -> Option<Command<'_>>
     }
 }
 
-// `IMAGE INPUT SCHED`.
-#[tactic(auto, unfolding(crate::specs::Command::recorded_of))]
-fn recorded_files(words: &[String]) -> Option<Recorded<'_>>
-    ensures files { MatchOption result (recorded_of (texts words.now) ≡ None) (λ files. recorded_of (texts words.now) ≡ Some (recorded_names files)) }
-    ensures names { IfSome result (λ files. AreRecorded (recorded_names files)) }
-{
-    let [image, input, schedule] = words else {
-        return None;
-    };
-    let files = Recorded {
-        image: image.as_str(),
-        input: input.as_str(),
-        schedule: schedule.as_str(),
-    };
-    if are_recorded(&files) {
-        Some(files)
-    } else {
-        None
-    }
-}
-
 /// `IMAGE INPUT SCHED` and the options of a race report.
 #[tactic(auto, unfolding(crate::specs::Command::race_of))]
 pub(crate) fn parse_race(words: &[String]) -> Option<Command<'_>>
@@ -208,13 +187,25 @@ pub(crate) fn parse_trace(words: &[String]) -> Option<Command<'_>>
     }
 }
 
-/// `IMAGE INPUT SCHED` of `prof`.
+/// `IMAGE INPUT SCHED` and the option of a profile.
+#[tactic(auto, unfolding(crate::specs::Command::prof_of))]
 pub(crate) fn parse_prof(words: &[String]) -> Option<Command<'_>>
-    ensures command { MatchOption result (as_prof (recorded_of (texts words.now)) ≡ None) (λ command. as_prof (recorded_of (texts words.now)) ≡ Some (shown_command command)) }
+    ensures command { MatchOption result (prof_of (texts words.now) ≡ None) (λ command. prof_of (texts words.now) ≡ Some (shown_command command)) }
     ensures names { IfSome result (λ command. AreNamesOf (shown_command command)) }
 {
-    match recorded_files(words) {
-        Some(files) => Some(Command::Prof { files }),
+    let [image, input, schedule, options @ ..] = words else {
+        return None;
+    };
+    let files = Recorded {
+        image: image.as_str(),
+        input: input.as_str(),
+        schedule: schedule.as_str(),
+    };
+    if !are_recorded(&files) {
+        return None;
+    }
+    match flag_alone("--hot", options) {
+        Some(hot) => Some(Command::Prof { files, hot }),
         None => None,
     }
 }

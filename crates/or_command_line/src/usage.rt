@@ -4,7 +4,7 @@ ghost use Rattle.or_text.specs.Sentences.{sentence_text};
 ghost use Rattle.or_command_line.specs.declared.reading.Value.TheVariants.{Number};
 ghost use Rattle.or_command_line.specs.Words.{texts};
 ghost use Rattle.or_command_line.specs.Reading.{shown, SoFar};
-ghost use Rattle.or_command_line.specs.Usage.{start, image_apart, with_image, image_words, recorded_words, report_apart, with_report, schedule_apart, with_schedule, board_words, run_usage, hunt_usage, replay_usage, session_words, debug_usage, back_usage, race_usage, trace_usage, recorded_usage, asm_usage, dis_usage, workload_words, gen_usage, bench_usage, program_usage, usage_sentence};
+ghost use Rattle.or_command_line.specs.Usage.{start, image_apart, with_image, image_words, recorded_words, report_apart, with_report, schedule_apart, with_schedule, board_words, run_usage, hunt_usage, replay_usage, session_words, debug_usage, back_usage, race_usage, trace_usage, prof_usage, asm_usage, dis_usage, workload_words, gen_usage, bench_usage, program_usage, usage_sentence};
 
 use crate::reading::{
     Reading, SoFar, Value, then_apart, then_end, then_file, then_flag, then_number, then_option,
@@ -198,10 +198,14 @@ fn trace_usage(words: &[String]) -> Sentence<'_>
     then_end("trace", words, so_far)
 }
 
-fn recorded_usage<'a>(verb: &'a str, words: &'a [String]) -> Sentence<'a>
-    ensures { sentence_text result ≡ recorded_usage verb.now (texts words.now) }
+fn prof_usage(words: &[String]) -> Sentence<'_>
+    ensures { sentence_text result ≡ prof_usage (texts words.now) }
 {
-    then_end(verb, words, recorded_words(verb, words))
+    then_end(
+        "prof",
+        words,
+        then_flag("--hot", recorded_words("prof", words)),
+    )
 }
 
 // An image's name differs from the source's.
@@ -289,7 +293,7 @@ pub fn explain(words: &[String]) -> Sentence<'_>
         "debug" => then_end("debug", rest, session_words("debug", rest)),
         "back" => back_usage(rest),
         "race" => race_usage(rest),
-        "prof" => recorded_usage("prof", rest),
+        "prof" => prof_usage(rest),
         "trace" => trace_usage(rest),
         verb => program_usage(verb, rest),
     }
