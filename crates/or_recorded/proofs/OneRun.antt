@@ -1,5 +1,5 @@
 -- The files of a recorded run are those of one run, so that what a command makes of them is made of one run.
-use Rattle.std.proofs.Common.{◌≡◌, ◌∙◌, refl, sym, ap, subst, ℕ, List, Option, Some, length}
+use Rattle.std.proofs.Common.{◌≡◌, ◌∙◌, refl, sym, ap, subst, ℕ, Bool, List, Option, Some, length}
 use Rattle.or_sched.specs.Recording.{IsRecording}
 use Rattle.or_sched.proofs.Unique.{unique}
 use Rattle.or_command.specs.Writes.{File}
@@ -67,11 +67,11 @@ one_race_report run options =
     (λ r report also_report console other is also. (refl, one_race options.locks (symbols_for options.places r.files.image) (events_of (start_of r) r.turns) console other is also))
 
 -- one profile
-pub one_profile : (run : Recorded) (read : List (List ℕ)) (outs others : List File) (console other : List ℕ) → Writes prof_fault MakesProfile (run_alone run) read outs console
-    → Writes prof_fault MakesProfile (run_alone run) read others other → (outs ≡ others) × (console ≡ other)
-one_profile run =
-    one_output prof_fault MakesProfile (run_alone run)
-    (λ r report also_report console other is also. (refl, one_prof r.head.config.cores (symbols_of r.files.image) (traces (start_of r) r.turns) console other is also))
+pub one_profile : (hot : Bool) (run : Recorded) (read : List (List ℕ)) (outs others : List File) (console other : List ℕ) → Writes prof_fault (MakesProfile hot) (run_alone run) read outs console
+    → Writes prof_fault (MakesProfile hot) (run_alone run) read others other → (outs ≡ others) × (console ≡ other)
+one_profile hot run =
+    one_output prof_fault (MakesProfile hot) (run_alone run)
+    (λ r report also_report console other is also. (refl, one_prof hot r.head.config.cores (symbols_of r.files.image) (traces (start_of r) r.turns) console other is also))
 
 -- with a script, one session
 pub one_session : (run : Recorded) (script : List ℕ) (read : List (List ℕ)) (outs others : List File) (console other : List ℕ)

@@ -1,5 +1,5 @@
 -- A schedule of which one turn more is counted.
-use Rattle.std.proofs.Common.{◌≡◌, ◌∙◌, refl, sym, ap, subst, ℕ, ◌+◌, ◌<◌, List, [], ◌∷◌, ◌++◌, length, take, None, Result, Ok, Err, add-one, arith}
+use Rattle.std.proofs.Common.{◌≡◌, ◌∙◌, refl, sym, ap, subst, ℕ, ◌+◌, ◌<◌, Bool, List, [], ◌∷◌, ◌++◌, length, take, None, Result, Ok, Err, add-one, arith}
 use Rattle.std.specs.Prelude.{slice_index, IfOk, OnOk}
 use Rattle.std.proofs.Math.Seq.{take-suc}
 use Rattle.std.proofs.lemmas.List.{take_all}
@@ -12,7 +12,7 @@ use Rattle.or_replay.specs.Board.{IsBoard, IsTurned}
 use Rattle.or_replay.specs.declared.board.Refused.{Refused}
 use Rattle.or_replay.specs.Start.{start}
 use Rattle.or_replay.proofs.Replaying.{replay_one_more}
-use Rattle.or_elf.specs.Symbols.{SymbolTable}
+use Rattle.or_elf.specs.Symbols.{SymbolTable, symbols_of}
 use Rattle.or_prof.specs.Profile.{Addition, Profiled, IsProfile}
 use Rattle.or_prof.specs.Text.{IsProfText}
 use Rattle.or_recorded.specs.declared.refused.OwnFault.{OwnFault}
@@ -31,15 +31,15 @@ counted_of counted profile start turns n cores bus is seen =
     subst (λ (r : Result Profiled OwnFault). SeesProfile r start turns n cores bus) is seen
 
 -- the turn at a place is made, and counted
-pub counted_on : (start : Board) (turns : List ℕ) (n : ℕ) (old new : Profiled) (cores new_cores : List Core) (bus new_bus : BusState)
+pub counted_on : {T : Type 0} (done : T) (start : Board) (turns : List ℕ) (n : ℕ) (old new : Profiled) (cores new_cores : List Core) (bus new_bus : BusState)
     → n < length turns → IsCounted start turns n old cores bus
-    → ((board : Board) → IsBoard cores bus board → IsTurned {T = Unit {0}} (board_turned board (slice_index turns n)) (Ok tt) new_cores new_bus)
+    → ((board : Board) → IsBoard cores bus board → IsTurned (board_turned board (slice_index turns n)) (Ok done) new_cores new_bus)
     → IsLevel new new_cores new_bus → length new.cores ≡ length old.cores
     → ((additions : List Addition) (now : Board) → IsBoard cores bus now → IsProfile old additions → IsProfile new (additions ++ addition_of now (slice_index turns n) ∷ []))
     → IsCounted start turns (n + 1) new new_cores new_bus
-counted_on start turns n old new cores new_cores bus new_bus inside is turned level many added =
+counted_on done start turns n old new cores new_cores bus new_bus inside is turned level many added =
     let c = slice_index turns n in
-    let made = made_next (board_turned is.now c) tt new_cores new_bus (turned is.now is.is) in
+    let made = made_next (board_turned is.now c) done new_cores new_bus (turned is.now is.is) in
     let longer : take (n + 1) turns ≡ take n turns ++ c ∷ [] = ap (λ k. take k turns) (add-one n) ∙ take-suc turns n 0 inside in
     record {
       now = made.0;
@@ -50,17 +50,6 @@ counted_on start turns n old new cores new_cores bus new_bus inside is turned le
       profile_is = subst (IsProfile new) (sym (ap (traces start) longer ∙ traces_longer start is.now made.0 (take n turns) c is.reached made.1))
           (added (traces start (take n turns)) is.now is.is is.profile_is);
     }
-
--- the same where the turn may be refused
-pub seen_more : (result : Result (Unit {0}) Refused) (turns : List ℕ) (n : ℕ) (counted : Result Profiled OwnFault) (old new : Profiled) (cores new_cores : List Core) (bus new_bus : BusState)
-    → n < length turns → counted ≡ Ok old
-    → ((board : Board) → IsBoard cores bus board → IsTurned (board_turned board (slice_index turns n)) result new_cores new_bus)
-    → OnOk result (IsLevel new new_cores new_bus) → length new.cores ≡ length old.cores
-    → OnOk result ((additions : List Addition) (now : Board) → IsBoard cores bus now → IsProfile old additions → IsProfile new (additions ++ addition_of now (slice_index turns n) ∷ []))
-    → OnOk result ((start : Board) → SeesProfile counted start turns n cores bus → IsCounted start turns (n + 1) new new_cores new_bus)
-seen_more (Ok tt) turns n counted old new cores new_cores bus new_bus inside is turned level many added = λ start seen.
-    counted_on start turns n old new cores new_cores bus new_bus inside (counted_of counted old start turns n cores bus is seen) turned level many added
-seen_more (Err refused) turns n counted old new cores new_cores bus new_bus inside is turned level many added = tt
 
 -- before the first turn
 pub none_counted : (config : Config) (image input turns : List ℕ) (profile : Profiled) (cores : List Core) (bus : BusState) → Fits config
@@ -83,17 +72,18 @@ opened_sees config image input turns (Ok profile) cores bus fits many none is = 
 opened_sees config image input turns (Err own) cores bus fits many none is = tt
 
 -- the text that is written behind the last turn
-pub profile_made : (run : Run) (counted : Result Profiled OwnFault) (profile : Profiled) (cores : List Core) (bus : BusState) (report console : List ℕ) → counted ≡ Ok profile
-    → SeesProfile counted (start_of run) run.turns (length run.turns) cores bus → HasSymbols counted run.files.image
-    → ((additions : List Addition) → IsProfile profile additions → IsProfText (length profile.cores) profile.symbols additions console)
-    → (prof_fault run ≡ None) × MakesProfile run report console
-profile_made run counted profile cores bus report console is seen kept text =
+pub profile_made : (hot : Bool) (run : Run) (counted : Result Profiled OwnFault) (profile : Profiled) (cores : List Core) (bus : BusState) (report console : List ℕ) → counted ≡ Ok profile
+    → SeesProfile counted (start_of run) run.turns (length run.turns) cores bus → HasSymbols hot counted run.files.image
+    → ((additions : List Addition) → IsProfile profile additions → IsProfText profile.hot (length profile.cores) profile.symbols additions console)
+    → (prof_fault run ≡ None) × MakesProfile hot run report console
+profile_made hot run counted profile cores bus report console is seen kept text =
     let counts = counted_of counted profile (start_of run) run.turns (length run.turns) cores bus is seen in
-    let has : HasSymbols (Ok profile) run.files.image = subst (λ (r : Result Profiled OwnFault). HasSymbols r run.files.image) is kept in
+    let has : HasSymbols hot (Ok profile) run.files.image = subst (λ (r : Result Profiled OwnFault). HasSymbols hot r run.files.image) is kept in
     let whole : take (length run.turns) run.turns ≡ run.turns = take_all (length run.turns) run.turns (omega arith) in
     let all = traces (start_of run) run.turns in
     let made = text all (subst (λ (t : List ℕ). IsProfile profile (traces (start_of run) t)) whole counts.profile_is) in
     let many : length profile.cores ≡ run.head.config.cores = counts.many ∙ start-length run.head.config run.files.image run.files.input in (
       has.0,
-      subst (λ (s : SymbolTable). IsProfText run.head.config.cores s all console) has.1 (subst (λ (n : ℕ). IsProfText n profile.symbols all console) many made),
+      subst (λ (h : Bool). IsProfText h run.head.config.cores (symbols_of run.files.image) all console) has.2
+          (subst (λ (s : SymbolTable). IsProfText profile.hot run.head.config.cores s all console) has.1 (subst (λ (n : ℕ). IsProfText profile.hot n profile.symbols all console) many made)),
     )

@@ -1,5 +1,5 @@
 -- What the command `prof` checks and writes.
-use Rattle.std.specs.Prelude.{ℕ, List, Option}
+use Rattle.std.specs.Prelude.{ℕ, Bool, List, Option}
 use Rattle.or_elf.specs.Symbols.{symbols_of}
 use Rattle.or_prof.specs.Text.{IsProfText}
 use Rattle.or_recorded.specs.declared.refused.OwnFault.{OwnFault}
@@ -11,6 +11,6 @@ use Rattle.or_recorded.specs.Traces.{traces}
 abbrev pub prof_fault : Run → Option OwnFault
 prof_fault run = symbols_fault run.files.image
 
--- the profile of the traces of the run's turns
-abbrev pub MakesProfile : Run → List ℕ → List ℕ → Type 0
-MakesProfile run report console = IsProfText run.head.config.cores (symbols_of run.files.image) (traces (start_of run) run.turns) console
+-- the profile of the traces of the run's turns, with or without the pcs outside of functions
+abbrev pub MakesProfile : Bool → Run → List ℕ → List ℕ → Type 0
+MakesProfile hot run report console = IsProfText hot run.head.config.cores (symbols_of run.files.image) (traces (start_of run) run.turns) console

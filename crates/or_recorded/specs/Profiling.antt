@@ -1,5 +1,5 @@
 -- What the watcher of `prof` has seen of a schedule: a profile that has as many items of each core as the core has made steps.
-use Rattle.std.specs.Prelude.{◌≡◌, ℕ, ◌≤◌, List, Some, None, Result, Ok, Err, length, take, slice_get}
+use Rattle.std.specs.Prelude.{◌≡◌, ℕ, ◌≤◌, Bool, List, Some, None, Result, Ok, Err, length, take, slice_get}
 use Rattle.or_words.specs.declared.limits.TheConstants.{MOST_BUDGET}
 use Rattle.or_elf.specs.Symbols.{symbols_of}
 use Rattle.or_model.specs.Core.{Core}
@@ -38,7 +38,7 @@ abbrev pub SeesProfile : Result Profiled OwnFault → Board → List ℕ → ℕ
 SeesProfile (Ok profile) start turns n cores bus = IsCounted start turns n profile cores bus
 SeesProfile (Err own) start turns n cores bus = Unit {0}
 
--- the profile has the symbols of an image, or there is none for their fault or for want of memory
-abbrev pub HasSymbols : Result Profiled OwnFault → List ℕ → Type 0
-HasSymbols (Ok profile) image = (symbols_fault image ≡ None) × (profile.symbols ≡ symbols_of image)
-HasSymbols (Err own) image = Fails own (symbols_fault image)
+-- the profile has the symbols of an image, and counts pcs or does not; or there is none for their fault or for want of memory
+abbrev pub HasSymbols : Bool → Result Profiled OwnFault → List ℕ → Type 0
+HasSymbols hot (Ok profile) image = (symbols_fault image ≡ None) × (profile.symbols ≡ symbols_of image) × (profile.hot ≡ hot)
+HasSymbols hot (Err own) image = Fails own (symbols_fault image)

@@ -1,5 +1,5 @@
 //! Laws of the commands on a recorded run, as contracts of functions that do nothing.
-ghost use Rattle.std.specs.Prelude.{◌≡◌, ◌<◌, ℕ, List, Option, Some, length, slice_get};
+ghost use Rattle.std.specs.Prelude.{◌≡◌, ◌<◌, ℕ, Bool, List, Option, Some, length, slice_get};
 ghost use Rattle.or_model.specs.Core.{Core as CoreModel};
 ghost use Rattle.or_model.specs.Turn.{Board as BoardModel, replay};
 ghost use Rattle.or_replay.specs.Start.{start};
@@ -52,8 +52,8 @@ pub fn files_have_one_race_report(names: &Recorded<'_>)
 
 /// They have one profile.
 pub fn files_have_one_profile(names: &Recorded<'_>)
-    ensures { (read : List (List ℕ)) (outs others : List File) (console other : List ℕ) → Writes prof_fault MakesProfile (run_alone (recorded_names names.now)) read outs console
-        → Writes prof_fault MakesProfile (run_alone (recorded_names names.now)) read others other → (outs ≡ others) × (console ≡ other) }
+    ensures { (hot : Bool) (read : List (List ℕ)) (outs others : List File) (console other : List ℕ) → Writes prof_fault (MakesProfile hot) (run_alone (recorded_names names.now)) read outs console
+        → Writes prof_fault (MakesProfile hot) (run_alone (recorded_names names.now)) read others other → (outs ≡ others) × (console ≡ other) }
 {
     let _ = names;
 }

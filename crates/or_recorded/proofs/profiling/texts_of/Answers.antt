@@ -5,5 +5,5 @@ use Rattle.or_recorded.proofs.profiling.texts_of.Goals as goal
 
 pub returns-in-Ok : goal.returns-in-Ok
 returns-in-Ok c = λ additions is.
-    text_alone (IsProfText (length c.args.profile.now.cores) c.args.profile.now.symbols additions) c.new-console.result.items c.write.new.out.items
+    text_alone (IsProfText c.args.profile.now.hot (length c.args.profile.now.cores) c.args.profile.now.symbols additions) c.new-console.result.items c.write.new.out.items
     c.new-console.ensures.items (c.in-Ok.ensures.text additions is)
