@@ -94,11 +94,12 @@ pub(crate) const COMMANDS: [Help<'static>; 12] = [
     },
     Help {
         name: "prof",
-        words: "IMAGE INPUT SCHED",
+        words: "IMAGE INPUT SCHED [--hot]",
         text: "    Follows a recorded run, and writes to standard output how many steps each core made in each function of the image's
     symbol table.
+    --hot            behind each core's steps outside of all functions, the up to eight pcs that have most of them
 ",
-        example: "or1k prof program.elf - program.sched",
+        example: "or1k prof program.elf - program.sched --hot",
     },
     Help {
         name: "trace",

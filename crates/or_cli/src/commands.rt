@@ -202,10 +202,10 @@ fn race_command<H: Host>(
 }
 
 // Profiles a recorded run, and says how that ended.
-fn prof_command<H: Host>(alloc: Global, names: &Recorded<'_>, host: &mut H) -> u8
+fn prof_command<H: Host>(alloc: Global, names: &Recorded<'_>, hot: bool, host: &mut H) -> u8
     requires names { AreRecorded (recorded_names names.now) }
-    ensures ends { CommandEnds (prof (recorded_names names.now)) result (H.state host.old) (H.state host.new) }
-    ensures complete { IsComplete (prof (recorded_names names.now)) result (H.state host.old) (H.state host.new) }
+    ensures ends { CommandEnds (prof (recorded_names names.now) hot) result (H.state host.old) (H.state host.new) }
+    ensures complete { IsComplete (prof (recorded_names names.now) hot) result (H.state host.old) (H.state host.new) }
     ensures command { IsCarriedOut result }
 {
     let names = Names {
@@ -213,7 +213,11 @@ fn prof_command<H: Host>(alloc: Global, names: &Recorded<'_>, host: &mut H) -> u
         script: None,
         report: None,
     };
-    recorded_command(alloc, &names, &Prof, host)
+    if hot {
+        recorded_command(alloc, &names, &Prof::<true>, host)
+    } else {
+        recorded_command(alloc, &names, &Prof::<false>, host)
+    }
 }
 
 // Writes the trace of a recorded run, and says how that ended.
@@ -299,7 +303,7 @@ pub fn top_alone<H: Host>(alloc: Global, words: &[String], host: &mut H) -> u8
             },
         ) => back_command(alloc, &files, script, every, host),
         Some(Command::Race { files, options }) => race_command(alloc, &files, options, host),
-        Some(Command::Prof { files }) => prof_command(alloc, &files, host),
+        Some(Command::Prof { files, hot }) => prof_command(alloc, &files, hot, host),
         Some(Command::Trace { files, options }) => trace_command(alloc, &files, &options, host),
         _ => refuse_words(words, host),
     }
