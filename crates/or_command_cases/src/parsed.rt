@@ -124,9 +124,9 @@ fn print_command<R: Print>(rt: &R, command: &Command<'_>) -> Result<(), CaseFaul
             print!(rt; "{}", if options.locks { " locks" } else { "" })?;
             println!(rt; "{}", if options.places { " where" } else { "" })?;
         }
-        Command::Prof { files } => {
+        Command::Prof { files, hot } => {
             print_recorded(rt, "prof", files)?;
-            println!(rt; "")?;
+            println!(rt; "{}", if *hot { " hot" } else { "" })?;
         }
         Command::Trace { files, options } => {
             print_recorded(rt, "trace", files)?;
