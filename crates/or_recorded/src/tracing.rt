@@ -12,6 +12,7 @@ ghost use Rattle.or_recorded.specs.Tracing.{IsTraced};
 use arrayvec::ArrayVec;
 use or_command::{PieceStop, write_piece};
 use or_command_line::TraceOptions;
+use or_core::TracedStep;
 use or_elf::Labels;
 use or_host::Host;
 use or_replay::Board;
@@ -39,7 +40,8 @@ fn is_wanted(options: &TraceOptions, number: u32, core: u8) -> bool
     options.from <= number && number <= options.to && is_of_core(options.core, core)
 }
 
-// Makes a turn, and appends its text where it is wanted.
+// Makes a turn, and appends its text where it is wanted. Its steps are listed in a list that serves every turn, since a new one
+// is cleared whole.
 #[tactic(auto, unfolding(crate::specs::Trace::wanted_text))]
 fn append_wanted(
     options: &TraceOptions,
@@ -47,6 +49,7 @@ fn append_wanted(
     board: &mut Board,
     core: u8,
     number: u32,
+    steps: &mut ArrayVec<TracedStep, 256>,
     made: &mut Vec<u8>,
 ) -> Result<(), NoMemory>
     ensures { (now next : BoardModel) → IsBoard board.old.cores board.old.bus now → board_turned now core ≡ Some next
@@ -56,8 +59,8 @@ fn append_wanted(
         let _ = board.turn(core);
         return Ok(());
     }
-    let mut steps = ArrayVec::new();
-    let _ = board.turn_by_steps(core, &mut steps);
+    steps.clear();
+    let _ = board.turn_by_steps(core, steps);
     append_turn(labels, number, u32::from(core), steps.as_slice(), made)
 }
 
@@ -98,6 +101,7 @@ fn trace_turn<H: Host>(
     board: &mut Board,
     core: u8,
     number: u32,
+    steps: &mut ArrayVec<TracedStep, 256>,
     made: &mut Vec<u8>,
     host: &mut H,
 ) -> Result<(), PieceStop>
@@ -108,7 +112,7 @@ fn trace_turn<H: Host>(
     ensures bounded { OnOk result (length made.new.items < FULL) }
     ensures silent { Silent (H.state host.old) (H.state host.new) }
 {
-    match append_wanted(options, labels, board, core, number, made) {
+    match append_wanted(options, labels, board, core, number, steps, made) {
         Ok(()) => write_full(made, host),
         Err(_) => Err(PieceStop::NoMemory),
     }
@@ -132,10 +136,13 @@ pub(crate) fn trace_turns<H: Host>(
     ensures silent { Silent (H.state host.old) (H.state host.new) }
 {
     let mut made = Vec::new(alloc);
+    let mut steps = ArrayVec::new();
     let mut number = 1;
     let mut rest = turns;
     while let Some((core, others)) = rest.split_first() {
-        match trace_turn(options, labels, board, *core, number, &mut made, host) {
+        match trace_turn(
+            options, labels, board, *core, number, &mut steps, &mut made, host,
+        ) {
             Ok(()) => {}
             Err(stop) => return Err(stop),
         }
